@@ -3,6 +3,7 @@
 
 mod bit_value;
 mod bit_width;
+mod signed;
 mod words;
 
 pub use bit_value::Bits;
