@@ -1,0 +1,5 @@
+pub mod Fields
+pub mod Registers
+pub mod Tests
+pub mod Ranges
+pub mod Instructions

@@ -1,0 +1,14 @@
+-- What tests of lists and of two things at once tell.
+use Rattle.std.proofs.Common.{◌≡◌, ℕ, zero, suc, Bool, true, false, ◌&&◌, List, [], ◌∷◌, slice_get, Some, None, refl, subst, ap}
+use Rattle.std.specs.List.{list_all}
+
+-- both parts of a test hold
+pub both : (a b : Bool) → (a && b) ≡ true → (a ≡ true) × (b ≡ true)
+both true b h = (refl, h)
+both false b h = cc
+
+-- a test that each item of a list passes holds of the one at an index
+pub list_all-slice_get : {X : Type 0} (p : X → Bool) (xs : List X) (i : ℕ) (x : X) → list_all p xs ≡ true → slice_get xs i ≡ Some x → p x ≡ true
+list_all-slice_get p [] i x all at = cc
+list_all-slice_get p (y ∷ ys) zero x all at = let same : y ≡ x = cc in subst (λ z. p z ≡ true) same (both (p y) (list_all p ys) all).0
+list_all-slice_get p (y ∷ ys) (suc i) x all at = list_all-slice_get p ys i x (both (p y) (list_all p ys) all).1 at

@@ -1,0 +1,4 @@
+pub mod Declaration
+pub mod Typing
+pub mod Value
+pub mod Effect

@@ -1,0 +1,90 @@
+use crate::evaluation::eval;
+use crate::ids::InstrId;
+use crate::instr::Write;
+use crate::isa::Isa;
+use crate::view::View;
+use crate::write_made::Made;
+use vg_bits::Bits;
+
+ghost use Rattle.std.specs.Prelude.{◌≡◌, ◌<◌, IsTrue, length, slice_get, IfSome};
+ghost use Rattle.vg_isa.specs.Typing.{is_write, is_write_of, is_typed};
+ghost use Rattle.vg_isa.specs.Value.{HasDeclaredWidths, value_of};
+ghost use Rattle.vg_isa.specs.Effect.{made_by, made_of, next_pc_of, following};
+ghost use Rattle.std.specs.Option.{option_map, ForSome};
+
+/// The address or index of a write.
+fn place<V: View>(isa: &Isa, write: &Write, word: Bits, v: &V) -> Option<Bits>
+    requires write { IsTrue (is_write_of isa.now write.now.resource write.now.at write.now.value) }
+    requires word { word.width ≡ isa.now.word }
+    requires registers { V.registers v.now ≡ isa.now.regs }
+    requires widths { HasDeclaredWidths isa.now (V.reads v.now) }
+    ensures { result ≡ option_map (λ at. value_of isa.now at word.number (V.reads v.now)) write.now.at }
+{
+    match &write.at {
+        None => None,
+        Some(at) => Some(eval(isa, at, word, v)),
+    }
+}
+
+/// The write, where its guard holds.
+fn make<V: View>(isa: &Isa, write: &Write, word: Bits, v: &V) -> Option<Made>
+    requires write { IsTrue (is_write isa.now write.now) }
+    requires word { word.width ≡ isa.now.word }
+    requires registers { V.registers v.now ≡ isa.now.regs }
+    requires widths { HasDeclaredWidths isa.now (V.reads v.now) }
+    ensures { result ≡ made_by isa.now write.now word.number (V.reads v.now) }
+{
+    if eval(isa, &write.guard, word, v).value() != 1 {
+        return None;
+    }
+    let at = place(isa, write, word, v);
+    let value = eval(isa, &write.value, word, v);
+    Some(Made {
+        resource: write.resource,
+        at,
+        value,
+    })
+}
+
+/// The `k`-th write of an instruction, counted from 0; None exactly where its guard is false, or the
+/// instruction has no such write.
+pub fn made<V: View>(isa: &Isa, i: InstrId, k: usize, word: Bits, v: &V) -> Option<Made>
+    requires instr { i.0 < length isa.now.instrs }
+    requires word { word.width ≡ isa.now.word }
+    requires registers { V.registers v.now ≡ isa.now.regs }
+    requires widths { HasDeclaredWidths isa.now (V.reads v.now) }
+    ensures { IfSome (slice_get isa.now.instrs i.0) (λ instr. result ≡ made_of isa.now instr k word.number (V.reads v.now)) }
+{
+    let write = isa.instr(i).writes.get(k)?;
+    make(isa, write, word, v)
+}
+
+/// The address of the word behind the instruction's own, modulo the size of the address space.
+fn next_address<V: View>(isa: &Isa, v: &V) -> Bits
+    requires widths { HasDeclaredWidths isa.now (V.reads v.now) }
+    ensures { result ≡ following isa.now (V.reads v.now) }
+{
+    let parts = isa.parts();
+    let bytes = u128::from(parts.word.bits() / 8);
+    v.pc().add(Bits::of(parts.pc.width, bytes))
+}
+
+/// The program counter after an instruction.
+pub fn next_pc<V: View>(isa: &Isa, i: InstrId, word: Bits, v: &V) -> Bits
+    requires instr { i.0 < length isa.now.instrs }
+    requires word { word.width ≡ isa.now.word }
+    requires registers { V.registers v.now ≡ isa.now.regs }
+    requires widths { HasDeclaredWidths isa.now (V.reads v.now) }
+    ensures { IfSome (slice_get isa.now.instrs i.0) (λ instr. result ≡ next_pc_of isa.now instr word.number (V.reads v.now)) }
+{
+    match &isa.instr(i).next {
+        None => next_address(isa, v),
+        Some((guard, target)) => {
+            if eval(isa, guard, word, v).value() == 1 {
+                eval(isa, target, word, v)
+            } else {
+                next_address(isa, v)
+            }
+        }
+    }
+}

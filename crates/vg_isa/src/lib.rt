@@ -1,0 +1,56 @@
+//! The checked description of a processor as the tools read it, and the meaning of its behaviours.
+//!
+//! An [`Isa`] has the registers, formats and instructions of a description. A behaviour is a list of
+//! guarded writes and the next program counter, each made of trees of type [`Expr`]. A tree is
+//! evaluated for an instruction word over a [`View`], which stands for a machine state:
+//!
+//! - [`eval`] gives the value of a tree,
+//! - [`made`] the write that an instruction makes, where its guard holds,
+//! - [`next_pc`] the program counter after it.
+//!
+//! **What is proved.** Each of the three gives exactly the value that `specs/` defines by recursion on
+//! the tree with the formulas of `vg_bits`: `value_of`, `made_of` and `next_pc_of`. An [`Isa`] keeps in its
+//! type that every operand in its trees has the width that its place needs (`is_isa`), so no evaluator
+//! has an error among its answers.
+//!
+//! **Limits.** Trees come from texts of bounded depth, so evaluation recurses on them. At most 64 bits a
+//! word, 128 bits a value, 64 registers a file.
+//!
+//! ```text
+//! let sum = eval(&isa, &tree, word, &machine);   // the value of the tree for this word in this state
+//! ```
+#![tactic(auto)]
+
+mod abi;
+mod declaration;
+mod effect;
+mod evaluation;
+mod expr;
+
+mod format;
+mod ids;
+mod instr;
+mod isa;
+mod operator;
+mod view;
+mod word_field;
+mod write_made;
+
+pub use abi::{Abi, Act, Micro, Stage};
+pub use declaration::{PcDecl, RegDecl};
+pub use effect::{made, next_pc};
+pub use evaluation::eval;
+pub use expr::Expr;
+pub use word_field::field;
+pub use format::{FieldDecl, Format};
+pub use ids::{FieldId, FormatId, InstrId, RegId, ResourceId};
+pub use instr::{Instr, Part, Write};
+pub use isa::{Isa, Parts};
+pub use operator::{BinOp, CastOp, UnOp};
+pub use view::View;
+pub use write_made::Made;
+
+use sqlite_items::Items;
+
+/// A text as its bytes, which contracts see as a list.
+pub type Text = Items<u8>;
