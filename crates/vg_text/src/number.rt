@@ -1,6 +1,6 @@
 //! Numbers as text: hexadecimal of a fixed length in lower case, and decimal.
 
-ghost use Rattle.std.specs.Prelude.{◌≡◌, ◌++◌, ◌^◌, ◌<◌, ◌≤◌, OnOk, OnErr, decimal};
+ghost use Rattle.std.specs.Prelude.{◌≡◌, ◌++◌, ◌^◌, ◌<◌, ◌≤◌, ◌↔◌, ℕ, List, Some, OnOk, OnErr, decimal};
 ghost use Rattle.std.specs.Option.{option_map};
 ghost use Rattle.vg_text.specs.Number;
 
@@ -123,4 +123,17 @@ fn decimal_value(c: u8) -> Option<u8>
         b'0'..=b'9' => Some(c - b'0'),
         _ => None,
     }
+}
+
+/// A text begins with a number in this many digits, and the rest follows, exactly where it is that
+/// number's hexadecimal and then the rest.
+pub fn hexadecimal_reads_back()
+    ensures { (digits n : ℕ) (text rest : List ℕ) → (Number.hexadecimal_at digits text ≡ Some (n, rest)) ↔ ((n < 16 ^ digits) × (text ≡ Number.hexadecimal digits n ++ rest)) }
+{
+}
+
+/// A text is read as a number of up to 64 digits exactly where it is that number's decimal.
+pub fn decimal_reads_back()
+    ensures { (n : ℕ) (text : List ℕ) → n < 10 ^ 64 → (Number.decimal_of text ≡ Some n) ↔ (text ≡ decimal n) }
+{
 }
