@@ -1,15 +1,16 @@
 -- The laws of decimal numbers. std's `decimal` holds of numbers of up to 64 digits.
-use Rattle.std.proofs.Common.{◌≡◌, ◌≢◌, ℕ, zero, suc, ◌+◌, ◌-◌, ◌*◌, ◌/◌, ◌%◌, ◌^◌, ◌<◌, ◌≤◌, ◌⊎◌, Bool, true, false, not, ◌&&◌, eqb, leb, cond, List, [], ◌∷◌, ◌++◌, Option, Some, None, length, get_or, refl, ap, sym, ◌∙◌, subst, inl, inr, arith, length-append}
+use Rattle.std.proofs.Common.{◌≡◌, ◌≢◌, ℕ, zero, suc, ◌+◌, ◌-◌, ◌*◌, ◌/◌, ◌%◌, ◌^◌, ◌<◌, ◌≤◌, ◌⊎◌, Bool, true, false, not, ◌&&◌, eqb, leb, cond, List, [], ◌∷◌, ◌++◌, Option, Some, None, length, get_or, take, drop, set, refl, ap, sym, ◌∙◌, subst, inl, inr, arith, length-append}
 use Rattle.std.specs.Prelude.{IsTrue, decimal}
 use Rattle.std.specs.List.{AllByRecursion}
 use Rattle.std.specs.Option.{option_and_then}
 use Rattle.std.proofs.lemmas.Fmt.{decimal_digit, decimal_step_wide, decimal_by_steps_wide}
-use Rattle.std.proofs.lemmas.List.{append_assoc, append-nil}
-use Rattle.std.proofs.lemmas.Bool.{ne_eqb, eq-eqb, cases_eq, cases_lt, and_from, not_from_false}
+use Rattle.std.proofs.lemmas.List.{append_assoc, append-nil, drop_more, drop_all, drop-set, length-set, take_rest}
+use Rattle.std.proofs.lemmas.Bool.{ne_eqb, eq-eqb, cases_eq, cases_lt, le-ltb, lt-ltb, and_from, not_from_false}
+use Rattle.std.proofs.Math.Nat.{pow-suc, pow-le-pow_right}
 use Rattle.std.proofs.lemmas.Bool.Decides.{nat_tests}
 use Rattle.std.proofs.lemmas.Option.{none-some, same_Some}
 use Rattle.vg_text.specs.Piece.{lacks}
-use Rattle.vg_text.specs.Number.{decimal_value, decimal_after, decimal_of}
+use Rattle.vg_text.specs.Number.{decimal_value, decimal_after, decimal_of, option_below}
 use Rattle.vg_text.proofs.Pieces.{cases_option, lacks-append}
 
 -- a digit and its character
@@ -138,3 +139,100 @@ digit_lacks byte d below = let other : 48 + d ≢ byte = λ e. omega arith in an
 pub lacks-decimal : (byte n : ℕ) → byte < 48 → n < 10 ^ 64 → IsTrue (lacks byte (decimal n))
 lacks-decimal byte n below = decimal_by_steps_wide (λ _ text. IsTrue (lacks byte text)) (λ m _. digit_lacks byte m below)
     (λ m text _ without. rw (lacks-append byte text ((48 + m % 10) ∷ [])) (and_from (lacks byte text) (lacks byte ((48 + m % 10) ∷ [])) without (digit_lacks byte (m % 10) below))) n
+
+-- a loop over the text: one digit more, no digit, a number that is too large already, and the end
+pub decimal_after_more : (a i d : ℕ) (text : List ℕ) → i < length text → decimal_value (get_or text i 0) ≡ Some d → decimal_after (a * 10 + d) (drop (i + 1) text) ≡ decimal_after a (drop i text)
+unfolding decimal_after
+decimal_after_more a i d text within is = sym (ap (decimal_after a) (drop_more text i 0 within) ∙ rw is refl)
+
+pub decimal_after_none : (a i : ℕ) (text : List ℕ) → i < length text → decimal_value (get_or text i 0) ≡ None → decimal_after a (drop i text) ≡ None
+unfolding decimal_after
+decimal_after_none a i text within is = ap (decimal_after a) (drop_more text i 0 within) ∙ rw is refl
+
+pub option_below-large : (a bound : ℕ) (text : List ℕ) → bound ≤ a → option_below bound (decimal_after a text) ≡ None
+option_below-large a bound text large =
+    elim (cases_option (decimal_after a text)) [
+        inl none ↦ rw none refl
+      | inr w ↦ let past : bound ≤ w.0 = omega (arith, le-decimal_after a text w.0 w.1) in rw (w.1, le-ltb w.0 bound past) refl
+    ]
+
+pub option_below-overflow : (bound a i d : ℕ) (text : List ℕ) → i < length text → decimal_value (get_or text i 0) ≡ Some d → (a * 10 + d < bound → ⊥) → option_below bound (decimal_after a (drop i text)) ≡ None
+option_below-overflow bound a i d text within is past =
+    ap (option_below bound) (sym (decimal_after_more a i d text within is))
+    ∙ option_below-large (a * 10 + d) bound (drop (i + 1) text) (elim (cases_lt (a * 10 + d) bound) [ inl below ↦ absurd (past below) | inr large ↦ large ])
+
+pub option_below-small : (n bound : ℕ) → n < bound → option_below bound (Some n) ≡ Some n
+option_below-small n bound small = rw (lt-ltb n bound small) refl
+
+pub decimal_after_all : (a i : ℕ) (text : List ℕ) → length text ≤ i → decimal_after a (drop i text) ≡ Some a
+unfolding decimal_after
+decimal_after_all a i text past = ap (decimal_after a) (drop_all i text past)
+
+-- a loop that fills a buffer from its end
+pub record IsFilled (n rest start : ℕ) (buffer : List ℕ) : Type 0 where
+  pub room : rest < 10 ^ start
+  pub positive : 0 < start
+  pub within : start ≤ 20
+  pub len : length buffer ≡ 20
+  pub text : decimal rest ++ drop start buffer ≡ decimal n
+
+room_for_two : (start rest : ℕ) → 10 ≤ rest → rest < 10 ^ start → 1 < start
+room_for_two start rest large room =
+    elim (cases_lt 1 start) [
+        inl more ↦ more
+      | inr few ↦ absurd (omega (arith, pow-le-pow_right {n = 10} (omega arith) few))
+    ]
+
+filled_text : (start c : ℕ) (buffer : List ℕ) → length buffer ≡ 20 → start ≤ 20 → 0 < start → drop (start - 1) (set buffer (start - 1) c) ≡ c ∷ drop start buffer
+filled_text start c buffer len within positive =
+    let place : start - 1 < length buffer = omega arith in
+    let behind : start - 1 + 1 ≡ start = omega arith in
+    drop-set buffer (start - 1) c place ∙ ap (λ k. c ∷ drop k buffer) behind
+
+pub filled_more : (n rest start : ℕ) (buffer : List ℕ) → n < 2 ^ 64 → rest ≤ n → 10 ≤ rest → IsFilled n rest start buffer → IsFilled n (rest / 10) (start - 1) (set buffer (start - 1) (48 + rest % 10))
+filled_more n rest start buffer small least large filled =
+    let two = room_for_two start rest large filled.room in
+    let next : start ≡ suc (start - 1) = omega arith in
+    let power : 10 ^ start ≡ 10 ^ (start - 1) * 10 = ap (λ k. 10 ^ k) next ∙ pow-suc 10 (start - 1) in
+    record {
+        room = omega (arith, filled.room, power);
+        positive = omega (arith, two);
+        within = omega (arith, filled.within);
+        len = length-set buffer (start - 1) (48 + rest % 10) ∙ filled.len;
+        text =
+            ap (λ t. decimal (rest / 10) ++ t) (filled_text start (48 + rest % 10) buffer filled.len filled.within filled.positive)
+            ∙ sym (append_assoc (decimal (rest / 10)) ((48 + rest % 10) ∷ []) (drop start buffer))
+            ∙ ap (λ t. t ++ drop start buffer) (sym (decimal_step_wide rest large (omega arith)))
+            ∙ filled.text;
+    }
+
+pub filled_last : (n rest start : ℕ) (buffer : List ℕ) → rest < 10 → IsFilled n rest start buffer → take (20 - (start - 1)) (drop (start - 1) (set buffer (start - 1) (48 + rest))) ≡ decimal n
+filled_last n rest start buffer small filled =
+    let xs : List ℕ = set buffer (start - 1) (48 + rest) in
+    let len : 20 ≡ length xs = sym (length-set buffer (start - 1) (48 + rest) ∙ filled.len) in
+    ap (λ m. take (m - (start - 1)) (drop (start - 1) xs)) len
+    ∙ take_rest xs (start - 1)
+    ∙ filled_text start (48 + rest) buffer filled.len filled.within filled.positive
+    ∙ ap (λ t. t ++ drop start buffer) (sym (decimal_digit rest small))
+    ∙ filled.text
+
+-- the texts that a first look tells apart
+pub decimal_of-nil : (text : List ℕ) → length text ≡ 0 → decimal_of text ≡ None
+unfolding decimal_of
+decimal_of-nil [] none = refl
+decimal_of-nil (c ∷ text) none = absurd (omega arith)
+
+pub decimal_of-zero : (c : ℕ) (rest : List ℕ) → c ≡ 48 → length rest ≡ 0 → decimal_of (c ∷ rest) ≡ Some 0
+unfolding decimal_of decimal_after decimal_value
+decimal_of-zero c [] first none = rw first refl
+decimal_of-zero c (d ∷ rest) first none = absurd (omega arith)
+
+pub decimal_of-leading_zero : (c : ℕ) (rest : List ℕ) → c ≡ 48 → (length rest ≡ 0 → ⊥) → decimal_of (c ∷ rest) ≡ None
+unfolding decimal_of
+decimal_of-leading_zero c [] first some = absurd (some refl)
+decimal_of-leading_zero c (d ∷ rest) first some = rw (eq-eqb c 48 first) refl
+
+pub decimal_of-no_leading_zero : (c : ℕ) (rest : List ℕ) → c ≢ 48 → decimal_of (c ∷ rest) ≡ decimal_after 0 (c ∷ rest)
+unfolding decimal_of
+decimal_of-no_leading_zero c [] other = refl
+decimal_of-no_leading_zero c (d ∷ rest) other = rw (ne_eqb c 48 other) refl

@@ -55,14 +55,15 @@ pub fn hexadecimal_at(text: &[u8], digits: u8) -> Option<(u64, &[u8])>
     requires { digits ≤ 16 }
     ensures { option_map (λ found. (found.0, found.1.now)) result ≡ Number.hexadecimal_at digits text.now }
 {
-    let digits = usize::from(digits);
-    if text.len() < digits {
+    let len = usize::from(digits);
+    if text.len() < len {
         return None;
     }
-    let (front, rest) = text.split_at(digits);
+    let (front, rest) = text.split_at(len);
     let mut n = 0;
     for c in front {
-        n = n * 16 + u64::from(hex_value(*c)?);
+        let digit = hex_value(*c)?;
+        n = n * 16 + u64::from(digit);
     }
     Some((n, rest))
 }
@@ -95,11 +96,11 @@ fn hex_value(c: u8) -> Option<u8>
 pub fn decimal_of(text: &[u8]) -> Option<u64>
     ensures { result ≡ Number.option_below (2 ^ 64) (Number.decimal_of text.now) }
 {
-    match text {
-        [] => None,
-        [b'0', _, ..] => None,
-        _ => digits_value(text),
+    let (first, rest) = text.split_first()?;
+    if *first == b'0' {
+        return if rest.is_empty() { Some(0) } else { None };
     }
+    digits_value(text)
 }
 
 /// The number of a text of decimal digits, zeros in front allowed.
@@ -109,7 +110,8 @@ fn digits_value(text: &[u8]) -> Option<u64>
     let mut n: u64 = 0;
     for c in text {
         let digit = decimal_value(*c)?;
-        n = n.checked_mul(10)?.checked_add(u64::from(digit))?;
+        let shifted = n.checked_mul(10)?;
+        n = shifted.checked_add(u64::from(digit))?;
     }
     Some(n)
 }
