@@ -23,7 +23,7 @@ pub trait Files {
         ensures loaded { IfOk result (λ bytes. IfSome (held self.old) (λ files. beginning files name.now most ≡ Some bytes.items)) }
         ensures within { IfOk result (λ bytes. vec_len bytes ≤ most) }
         ensures failed { IsErrOf result LoadFault.Failed → Rose (faults self.old) (faults self.new) }
-        ensures faults_stay { faults self.old ≤ faults self.new }
-        ensures asks { Asks result name.now (asked self.old) (asked self.new) }
+        ensures kept_faults { faults self.old ≤ faults self.new }
+        ensures asked { Asks result name.now (asked self.old) (asked self.new) }
         ensures same { held self.new ≡ held self.old };
 }

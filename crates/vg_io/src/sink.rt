@@ -21,10 +21,10 @@ pub trait Sink {
     /// After an `Err` nothing was taken. No put changes whether the bytes are told.
     fn put(&mut self, bytes: &[u8]) -> Result<usize, PutFault>
         ensures within { IfOk result (λ count. count ≤ length bytes.now) }
-        ensures appended { written self.new ≡ append_known (written self.old) (take (count_taken result) bytes.now) }
+        ensures written { written self.new ≡ append_known (written self.old) (take (count_taken result) bytes.now) }
         ensures failed { IsErrOf result PutFault.Failed → Rose (faults self.old) (faults self.new) }
         ensures none { IfOk result (λ count. count ≡ 0 → 0 < length bytes.now → Rose (nones self.old) (nones self.new)) }
-        ensures faults_stay { faults self.old ≤ faults self.new }
-        ensures nones_stay { nones self.old ≤ nones self.new }
+        ensures kept_faults { faults self.old ≤ faults self.new }
+        ensures kept_nones { nones self.old ≤ nones self.new }
         ensures empty { bytes.now ≡ [] → (result ≡ Ok 0) × (faults self.new ≡ faults self.old) × (nones self.new ≡ nones self.old) };
 }
