@@ -1,3 +1,6 @@
 pub mod Count
 pub mod Files
+pub mod MemFiles
+pub mod MemSink
+pub mod Schedule
 pub mod Sink

@@ -3,10 +3,13 @@
 
 mod files;
 mod load_fault;
+mod mem_sink;
 mod put_fault;
+mod schedule;
 mod sink;
 
 pub use files::Files;
 pub use load_fault::LoadFault;
+pub use mem_sink::MemSink;
 pub use put_fault::PutFault;
 pub use sink::Sink;
