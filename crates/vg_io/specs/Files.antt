@@ -1,4 +1,4 @@
-use Rattle.std.specs.Prelude.{◌≡◌, ℕ, List, [], ◌∷◌, ◌++◌, ◌⊎◌, Option, option_map, take, Result, Ok, Err}
+use Rattle.std.specs.Prelude.{◌≡◌, ℕ, Bool, true, false, List, [], ◌∷◌, ◌++◌, ◌⊎◌, Option, option_map, take, Result, Ok, Err}
 use Rattle.vg_io.specs.declared.load_fault.LoadFault.{LoadFault}
 use Rattle.vg_io.specs.declared.load_fault.LoadFault.TheVariants.{Failed, OutOfMemory}
 
@@ -11,3 +11,9 @@ abbrev pub Asks : {T : Type 0} → Result T LoadFault → List ℕ → List (Lis
 Asks (Ok _) name before now = now ≡ before ++ name ∷ []
 Asks (Err Failed) name before now = now ≡ before ++ name ∷ []
 Asks (Err OutOfMemory) name before now = (now ≡ before ++ name ∷ []) ⊎ (now ≡ before)
+
+-- a load failed, and not for want of memory
+abbrev pub load_failed : {T : Type 0} → Result T LoadFault → Bool
+load_failed (Ok _) = false
+load_failed (Err Failed) = true
+load_failed (Err OutOfMemory) = false

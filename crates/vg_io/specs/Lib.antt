@@ -2,5 +2,8 @@ pub mod Count
 pub mod Files
 pub mod MemFiles
 pub mod MemSink
+pub mod RealFiles
+pub mod RealOut
 pub mod Schedule
 pub mod Sink
+pub mod Texts

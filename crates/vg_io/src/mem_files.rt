@@ -1,9 +1,9 @@
-ghost use Rattle.std.specs.Prelude.{◌≡◌, ◌≤◌, ◌↔◌, ◌⊎◌, ◌++◌, [], ◌∷◌, Some, None, IfOk, IfSome, IsErrOf, OnOk, map, option_map, vec_len};
-ghost use Rattle.std.specs.Option.{option_copied};
-ghost use Rattle.vg_io.specs.Count.{Rose};
-ghost use Rattle.vg_io.specs.Files.{beginning, Asks};
+ghost use Rattle.std.specs.Prelude.{◌≡◌, ◌≤◌, ◌⊎◌, [], Some, None, IfOk, IsErrOf, OnOk, option_map, vec_len, if◌then◌else◌};
+ghost use Rattle.vg_io.specs.Count.{Rose, one_more};
+ghost use Rattle.vg_io.specs.Files.{beginning, Asks, load_failed};
 ghost use Rattle.vg_io.specs.Schedule.{IsFailing, after_call};
-ghost use Rattle.vg_io.specs.MemFiles.{bytes_named, named_bytes, texts, faults_after};
+ghost use Rattle.vg_io.specs.MemFiles.{bytes_named, named_bytes};
+ghost use Rattle.vg_io.specs.Texts.{texts};
 
 use crate::schedule::Schedule;
 use crate::{Files, LoadFault};
@@ -20,9 +20,10 @@ pub struct MemFiles {
 }
 
 impl Model for MemFiles {
-    ghost use Rattle.vg_io.specs.MemFiles.{Cabinet, named_bytes, texts};
+    ghost use Rattle.vg_io.specs.MemFiles.{MemFilesState, named_bytes};
+    ghost use Rattle.vg_io.specs.Texts.{texts};
 
-    ghost Value = { Cabinet };
+    ghost Value = { MemFilesState };
 
     ghost view = { λ f. record { files = named_bytes f.files.items; schedule = f.schedule; faults = f.faults; asked = texts f.asked.items } };
 }
@@ -79,7 +80,7 @@ impl Files for MemFiles {
         ensures fails { OnOk result (IsFailing self.old.schedule → ⊥) }
         ensures why { IsErrOf result LoadFault.Failed → IsFailing self.old.schedule ⊎ (bytes_named self.old.files name.now ≡ None) }
         ensures calls { self.new.schedule ≡ after_call self.old.schedule }
-        ensures faults { self.new.faults ≡ faults_after self.old.faults result }
+        ensures faults { self.new.faults ≡ (if load_failed result then one_more self.old.faults else self.old.faults) }
     {
         let fails = self.schedule.next_fails();
         let copy = String::from_str(alloc, name)?;

@@ -1,8 +1,8 @@
-ghost use Rattle.std.specs.Prelude.{◌≡◌, ◌≤◌, ◌<◌, ◌↔◌, ◌++◌, [], Some, Ok, IfOk, IsErrOf, length, take, min};
-ghost use Rattle.vg_io.specs.Count.{Rose};
+ghost use Rattle.std.specs.Prelude.{◌≡◌, ◌≤◌, ◌<◌, ◌↔◌, ◌++◌, [], Some, Ok, IfOk, IsErrOf, length, take, min, if◌then◌else◌};
+ghost use Rattle.vg_io.specs.Count.{Rose, one_more};
 ghost use Rattle.vg_io.specs.Schedule.{IsFailing};
-ghost use Rattle.vg_io.specs.Sink.{append_known, count_taken};
-ghost use Rattle.vg_io.specs.MemSink.{calls_after, faults_after, nones_after};
+ghost use Rattle.vg_io.specs.Sink.{append_known, count_taken, put_failed, took_none};
+ghost use Rattle.vg_io.specs.MemSink.{calls_after};
 
 use crate::schedule::Schedule;
 use crate::{PutFault, Sink};
@@ -20,9 +20,9 @@ pub struct MemSink {
 }
 
 impl Model for MemSink {
-    ghost use Rattle.vg_io.specs.MemSink.{Tray};
+    ghost use Rattle.vg_io.specs.MemSink.{MemSinkState};
 
-    ghost Value = { Tray };
+    ghost Value = { MemSinkState };
 
     ghost view = { λ s. record { bytes = s.bytes.items; piece = s.piece; schedule = s.schedule; faults = s.faults; nones = s.nones } };
 }
@@ -69,8 +69,8 @@ impl Sink for MemSink {
         ensures fails { IsErrOf result PutFault.Failed ↔ ((0 < length bytes.now) × IsFailing self.old.schedule) }
         ensures takes { IfOk result (λ count. count ≡ min self.old.piece (length bytes.now)) }
         ensures calls { self.new.schedule ≡ calls_after self.old.schedule bytes.now }
-        ensures faults { self.new.faults ≡ faults_after self.old.faults result }
-        ensures nones { self.new.nones ≡ nones_after self.old.nones bytes.now result }
+        ensures faults { self.new.faults ≡ (if put_failed result then one_more self.old.faults else self.old.faults) }
+        ensures nones { self.new.nones ≡ (if took_none result bytes.now then one_more self.old.nones else self.old.nones) }
         ensures piece { self.new.piece ≡ self.old.piece }
     {
         if bytes.is_empty() {

@@ -1,10 +1,11 @@
-ghost use Rattle.std.specs.Prelude.{◌≡◌, ◌≤◌, None, IfOk, vec_len};
+ghost use Rattle.std.specs.Prelude.{◌≡◌, ◌≤◌, [], None, IfOk, is_err, vec_len, if◌then◌else◌};
+ghost use Rattle.vg_io.specs.Count.{one_more};
 ghost use Rattle.vg_io.specs.Files.{Asks};
-ghost use Rattle.vg_io.specs.MemFiles.{texts};
 
 use crate::{Files, LoadFault};
 use std::alloc::Global;
 use std::io::{self, ErrorKind, Read};
+use std::marker::Model;
 use std::{fs, rt};
 
 /// The files of the system. It tells no bytes.
@@ -15,9 +16,20 @@ pub struct RealFiles<'a, R> {
     faults: u64,
 }
 
+impl<'a, R> Model for RealFiles<'a, R> {
+    ghost use Rattle.vg_io.specs.RealFiles.{RealFilesState};
+    ghost use Rattle.vg_io.specs.Texts.{texts};
+
+    ghost Value = { RealFilesState };
+
+    ghost view = { λ f. record { asked = texts f.asked.items; faults = f.faults } };
+}
+
 impl<'a, R: rt::Files> RealFiles<'a, R> {
     /// The files of this runtime, of which none was loaded so far.
-    pub fn new(alloc: Global, runtime: &'a R) -> RealFiles<'a, R> {
+    pub fn new(alloc: Global, runtime: &'a R) -> RealFiles<'a, R>
+        ensures { result ≡ record { asked = []; faults = 0 } }
+    {
         RealFiles {
             runtime,
             asked: Vec::new(alloc),
@@ -25,9 +37,23 @@ impl<'a, R: rt::Files> RealFiles<'a, R> {
         }
     }
 
+    // Each `Err` is counted.
+    fn load_counted(&mut self, alloc: Global, name: &str, most: usize) -> Result<Vec<u8>, LoadFault>
+        ensures within { IfOk result (λ bytes. vec_len bytes ≤ most) }
+        ensures asked { Asks result name.now self.old.asked self.new.asked }
+        ensures kept_faults { self.old.faults ≤ self.new.faults }
+        ensures faults { self.new.faults ≡ (if is_err result then one_more self.old.faults else self.old.faults) }
+    {
+        let loaded = self.read(alloc, name, most);
+        if loaded.is_err() {
+            self.faults = self.faults.saturating_add(1);
+        }
+        loaded
+    }
+
     fn read(&mut self, alloc: Global, name: &str, most: usize) -> Result<Vec<u8>, LoadFault>
         ensures within { IfOk result (λ bytes. vec_len bytes ≤ most) }
-        ensures asked { Asks result name.now (texts self.old.asked.items) (texts self.new.asked.items) }
+        ensures asked { Asks result name.now self.old.asked self.new.asked }
         ensures faults { self.new.faults ≡ self.old.faults }
     {
         let copy = String::from_str(alloc, name)?;
@@ -62,13 +88,9 @@ impl<R: rt::Files> Files for RealFiles<'_, R> {
 
     ghost faults = { λ f. f.faults };
 
-    ghost asked = { λ f. texts f.asked.items };
+    ghost asked = { λ f. f.asked };
 
     fn load(&mut self, alloc: Global, name: &str, most: usize) -> Result<Vec<u8>, LoadFault> {
-        let loaded = self.read(alloc, name, most);
-        if loaded.is_err() {
-            self.faults = self.faults.saturating_add(1);
-        }
-        loaded
+        self.load_counted(alloc, name, most)
     }
 }
