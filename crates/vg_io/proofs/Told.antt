@@ -29,7 +29,7 @@ IsPut-put before now next text rest count put took =
     record {
       front = put.front ++ take count rest;
       whole = put.whole ∙ ap (λ xs. put.front ++ xs) (sym (take-append-drop count rest)) ∙ sym (append_assoc put.front (take count rest) (drop count rest));
-      written = took ∙ ap (λ told. append_known told (take count rest)) put.written ∙ append_known-append before put.front (take count rest)
+      written = took ∙ ap (λ told. append_known told (take count rest)) put.written ∙ append_known-append before put.front (take count rest);
     }
 
 -- with no rest the whole text is written

@@ -33,6 +33,8 @@ impl Schedule {
     {
         let number = self.made;
         self.made = number.saturating_add(1);
-        self.failing.iter().any(|failing| u128::from(*failing) == number)
+        self.failing
+            .iter()
+            .any(|failing| u128::from(*failing) == number)
     }
 }
