@@ -1,0 +1,16 @@
+use Rattle.std.proofs.Common.{arith}
+use Rattle.vg_io.proofs.Told.{IsPut-put, IsPut-prefix}
+use Rattle.vg_io.proofs.putting.put_all.Goals as goal
+
+-- A put that fails or takes nothing leaves the front as it was.
+pub returns-in_err-count-clause-prefix : goal.returns-in_err-count-clause-prefix
+returns-in_err-count-clause-prefix g c =
+    IsPut-prefix _ _ _ _ (IsPut-put _ _ _ _ _ 0 c.loop-rest.invariant.0 c.in_err-count.ensures.written)
+
+-- What the put took goes from the rest to the front.
+pub loop-rest-preserved : goal.loop-rest-preserved
+loop-rest-preserved g c =
+    (rw c.split_at.ensures.back (IsPut-put _ _ _ _ _ c.in_ok-count.count c.loop-rest.invariant.0 c.in_ok-count.ensures.written), omega arith, omega arith)
+
+pub returns-clause-prefix : goal.returns-clause-prefix
+returns-clause-prefix g c = IsPut-prefix _ _ _ _ c.loop-rest.invariant.0

@@ -1,0 +1,9 @@
+pub mod Count
+pub mod Files
+pub mod MemFiles
+pub mod MemSink
+pub mod RealFiles
+pub mod RealOut
+pub mod Schedule
+pub mod Sink
+pub mod Texts

@@ -1,0 +1,48 @@
+//! The outside of the program: where it loads files from, and where it puts its text.
+//!
+//! A program takes a [`Files`] and a [`Sink`]. A load takes a file's name and the most bytes to
+//! give, and gives the first bytes of that file. A put takes a piece of a text, and answers how
+//! many of its first bytes were written. [`put_all`] puts a whole text so.
+//!
+//! What is proved, for every implementation: a load gives exactly the first bytes of the named
+//! file, a put appends exactly the bytes that it answers for, and each failure was counted. Where
+//! an object doesn't tell its bytes, the counts and the bounds still hold.
+//!
+//! [`MemFiles`] and [`MemSink`] keep bytes in memory, tell them, and fail at the calls that they
+//! are told to. [`RealFiles`] and [`RealOut`] are the system's files and standard output, and tell
+//! no bytes: what a real file or terminal holds is outside every proof.
+//!
+//! Counts stand still at 2^64 - 1. Only want of memory may take the place of any other answer.
+//!
+//! ```
+//! let mut out = MemSink::new(alloc, 2, Vec::new(alloc));
+//! put_all(&mut out, b"abc")?;
+//! assert_eq!(rt; out.bytes(), b"abc".as_slice());
+//! ```
+#![tactic(auto)]
+
+mod files;
+mod load_fault;
+mod mem_files;
+mod mem_sink;
+mod put_all_fault;
+mod put_fault;
+mod putting;
+mod real_files;
+mod real_out;
+mod schedule;
+mod sink;
+
+pub use files::Files;
+pub use load_fault::LoadFault;
+pub use mem_files::MemFiles;
+pub use mem_sink::MemSink;
+pub use put_all_fault::PutAllFault;
+pub use put_fault::PutFault;
+pub use putting::put_all;
+pub use real_files::RealFiles;
+pub use real_out::RealOut;
+pub use sink::Sink;
+
+#[cfg(test)]
+mod tests;
