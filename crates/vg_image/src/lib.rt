@@ -1,13 +1,8 @@
-// A library with one function.
+//! Images, and what running one means.
 #![tactic(auto)]
 
-ghost use Rattle.std.specs.Prelude.{◌≡◌};
-ghost use Rattle.vg_image.specs.Echo.{echo_of};
+mod ending;
+mod image;
 
-// The `ensures` clause is the contract: what `echo` returns is `echo_of` of its argument, a definition
-// in `specs/Echo.antt`, which a caller's clause can cite too.
-pub fn echo(x: usize) -> usize
-    ensures { result ≡ echo_of x }
-{
-    x
-}
+pub use ending::Ending;
+pub use image::{Image, Symbol};

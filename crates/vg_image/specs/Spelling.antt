@@ -1,0 +1,54 @@
+-- The text of an image. Each image has one spelling.
+use Rattle.std.specs.Prelude.{◌≡◌, ℕ, ◌+◌, ◌*◌, ◌/◌, ◌^◌, ◌<◌, ◌≤◌, ◌%◌, List, [], ◌∷◌, ◌++◌, codes, flat_map, length, take, drop, All}
+use Rattle.std.specs.List.{range_with_len}
+use Rattle.vg_text.specs.Number.{hexadecimal}
+use Rattle.vg_isa.specs.declared.isa.Parts.{Parts}
+use Rattle.vg_image.specs.declared.image.Image.{Image}
+use Rattle.vg_image.specs.declared.image.Symbol.{Symbol}
+use Rattle.vg_image.specs.Step.{word_bytes}
+
+-- `0x` and a digit for each four bits of an address
+abbrev pub address_text : Parts → ℕ → List ℕ
+address_text d at = codes "0x" ++ hexadecimal (d.pc.width / 4) at
+
+-- a line of a word, a space and an address
+abbrev pub address_line : Parts → List ℕ → ℕ → List ℕ
+address_line d word at = word ++ address_text d at ++ 10 ∷ []
+
+-- a line of a code word: two digits for each of its bytes
+abbrev pub code_line : Parts → ℕ → List ℕ
+code_line d word = codes "code " ++ hexadecimal (2 * word_bytes d) word ++ 10 ∷ []
+
+-- the k-th line of data: 16 bytes, and fewer in the last one
+abbrev pub bytes_line : List ℕ → ℕ → List ℕ
+bytes_line bytes k = codes "bytes " ++ flat_map (hexadecimal 2) (take 16 (drop (16 * k) bytes)) ++ 10 ∷ []
+
+abbrev pub symbol_line : Parts → Symbol → List ℕ
+symbol_line d symbol = codes "symbol " ++ symbol.name ++ codes " " ++ address_text d symbol.at ++ 10 ∷ []
+
+-- name, addresses, code words, data and symbols in this order
+unfoldable pub spelling : Parts → Image → List ℕ
+spelling d i =
+    codes "image " ++ d.name ++ 10 ∷ []
+    ++ address_line d (codes "base ") i.base
+    ++ address_line d (codes "entry ") i.entry
+    ++ address_line d (codes "stop ") i.stop
+    ++ address_line d (codes "full ") i.full
+    ++ flat_map (code_line d) i.code
+    ++ address_line d (codes "data ") i.data_base
+    ++ flat_map (bytes_line i.bytes) (range_with_len 0 ((length i.bytes + 15) / 16))
+    ++ flat_map (symbol_line d) i.symbols
+    ++ codes "end" ++ 10 ∷ []
+
+-- what a spelled image keeps: addresses below 2 ^ W, a base on a word's boundary, and code and data that end
+-- at 2 ^ W at most
+pub record IsImage (d : Parts) (i : Image) : Type 0 where
+  pub aligned : i.base % word_bytes d ≡ 0
+  pub base : i.base < 2 ^ d.pc.width
+  pub entry : i.entry < 2 ^ d.pc.width
+  pub stop : i.stop < 2 ^ d.pc.width
+  pub full : i.full < 2 ^ d.pc.width
+  pub data_base : i.data_base < 2 ^ d.pc.width
+  pub words : All (λ word. word < 2 ^ d.word) i.code
+  pub code_end : i.base + word_bytes d * length i.code ≤ 2 ^ d.pc.width
+  pub data_end : i.data_base + length i.bytes ≤ 2 ^ d.pc.width
