@@ -1,0 +1,6 @@
+pub mod Answers
+pub mod Command
+pub mod Description
+pub mod Form
+pub mod Refusal
+pub mod Report

@@ -1,0 +1,8 @@
+//! The program.
+#![tactic(auto)]
+
+mod form;
+mod status;
+
+pub use form::{Behaviour, Form, Pair};
+pub use status::Status;
