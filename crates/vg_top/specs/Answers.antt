@@ -1,5 +1,5 @@
 -- What the program answers to words, where the files are these.
-use Rattle.std.specs.Prelude.{◌≡◌, ℕ, ◌⊎◌, Bool, true, nat_lt, List, length, Option, Some, None}
+use Rattle.std.specs.Prelude.{◌≡◌, ℕ, ◌⊎◌, Bool, true, nat_lt, List, [], ◌∷◌, length, Option, Some, None, if◌then◌else◌}
 use Rattle.std.specs.Bool.{MatchBool}
 use Rattle.vg_isa.specs.declared.isa.Parts.{Parts}
 use Rattle.vg_image.specs.declared.image.Image.{Image}
@@ -17,39 +17,45 @@ use Rattle.vg_top.specs.Report.{run_report, run_status}
 abbrev pub Held : Type 0
 Held = List ℕ → Option (List ℕ)
 
--- an answer: a status, and the whole text that is written
+-- an answer: the names of the files that are asked for, the status, and the whole text that is written
 abbrev pub Answer : Type 1
-Answer = Status → List ℕ → Type 0
+Answer = List (List ℕ) → Status → List ℕ → Type 0
 
--- the one answer of this status and text
+-- the one answer of this status and text, which asks for no further file
 abbrev pub Only : Status → List ℕ → Answer
-Only wanted whole status text = (status ≡ wanted) × (text ≡ whole)
+Only wanted whole asked status text = (asked ≡ []) × (status ≡ wanted) × (text ≡ whole)
 
 abbrev pub Refuses : List ℕ → Answer
 Refuses line = Only Refused line
 
--- a file of more bytes than its limit is refused; with the bytes of any other the answer goes on
-abbrev pub WithBytes : List ℕ → ℕ → Option (List ℕ) → (List ℕ → Answer) → Answer
-WithBytes name limit None next status text = ⊥
-WithBytes name limit (Some bytes) next status text =
-    MatchBool (nat_lt limit (length bytes)) (Refuses (too_long name) status text) (next bytes status text)
+-- The file of this name is asked for. Where it has more bytes than its limit it is refused; with the bytes of
+-- any other the answer goes on.
+abbrev pub WithFile : List ℕ → ℕ → Option (List ℕ) → (List ℕ → Answer) → Answer
+WithFile name limit None next asked status text = ⊥
+WithFile name limit (Some bytes) next asked status text =
+    (more : List (List ℕ)) × (asked ≡ name ∷ more)
+    × MatchBool (nat_lt limit (length bytes)) (Refuses (too_long name) more status text) (next bytes more status text)
 
 -- a description is read, or refused at some place
 abbrev pub WithDescription : List ℕ → (Parts → Answer) → Answer
-WithDescription bytes next status text =
-    ((d : Parts) × IsDescription bytes d × next d status text)
-    ⊎ (IsNoDescription bytes × ((line column : ℕ) × Refuses (not_built line column) status text))
+WithDescription bytes next asked status text =
+    ((d : Parts) × IsDescription bytes d × next d asked status text)
+    ⊎ (IsNoDescription bytes × ((line column : ℕ) × Refuses (not_built line column) asked status text))
+
+-- why a text that is no image is refused, at some line
+abbrev pub image_refusal : List ℕ → ℕ → List ℕ
+image_refusal bytes line = if has_unbuilt_line bytes then not_built line 1 else image_refused line
 
 -- an image is read, or refused at some line
 abbrev pub WithImage : Parts → List ℕ → (Image → Answer) → Answer
-WithImage d bytes next status text =
-    ((i : Image) × IsSpelled d bytes i × next i status text)
-    ⊎ (IsNoImage d bytes × ((line : ℕ) × MatchBool (has_unbuilt_line bytes) (Refuses (not_built line 1) status text) (Refuses (image_refused line) status text)))
+WithImage d bytes next asked status text =
+    ((i : Image) × IsSpelled d bytes i × next i asked status text)
+    ⊎ (IsNoImage d bytes × ((line : ℕ) × Refuses (image_refusal bytes line) asked status text))
 
 -- the report of the run of an image for at most so many steps
 abbrev pub Reports : Parts → Image → ℕ → Answer
-Reports d i bound status text =
-    (r : Stand) × IsRun d i bound (first_state d i) r × Only (run_status r.ending) (run_report d i r) status text
+Reports d i bound asked status text =
+    (r : Stand) × IsRun d i bound (first_state d i) r × Only (run_status r.ending) (run_report d i r) asked status text
 
 -- a description has at most so many bytes, and an image
 abbrev pub description_limit : ℕ
@@ -58,18 +64,23 @@ description_limit = 1048576
 abbrev pub image_limit : ℕ
 image_limit = 8388608
 
--- the description is read before the image is loaded
+-- `run`: the description is read before the image is loaded
+abbrev pub ImageTextAnswers : Parts → ℕ → List ℕ → Answer
+ImageTextAnswers d bound bytes = WithImage d bytes (λ i. Reports d i bound)
+
+abbrev pub ImageAnswers : Held → Parts → List ℕ → ℕ → Answer
+ImageAnswers held d image bound = WithFile image image_limit (held image) (ImageTextAnswers d bound)
+
+abbrev pub DescriptionAnswers : Held → List ℕ → ℕ → List ℕ → Answer
+DescriptionAnswers held image bound bytes = WithDescription bytes (λ d. ImageAnswers held d image bound)
+
 abbrev pub RunAnswers : Held → List ℕ → List ℕ → ℕ → Answer
-RunAnswers held description image bound =
-    WithBytes description description_limit (held description) (λ text_of_description.
-      WithDescription text_of_description (λ d.
-        WithBytes image image_limit (held image) (λ text_of_image.
-          WithImage d text_of_image (λ i. Reports d i bound))))
+RunAnswers held description image bound = WithFile description description_limit (held description) (DescriptionAnswers held image bound)
 
 abbrev pub CommandAnswers : Held → Option Command → Answer
 CommandAnswers held None = Only Usage usage_line
 CommandAnswers held (Some (Run description image bound)) = RunAnswers held description image bound
 
--- This status and this whole text answer these words.
+-- This status and this whole text answer these words, and these files are asked for.
 abbrev pub Answers : Held → List (List ℕ) → Answer
 Answers held words = CommandAnswers held (command_of words)

@@ -4,3 +4,6 @@ pub mod Description
 pub mod Form
 pub mod Refusal
 pub mod Report
+pub mod Words
+pub mod Loading
+pub mod Answering

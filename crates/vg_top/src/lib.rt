@@ -1,8 +1,17 @@
 //! The program.
 #![tactic(auto)]
 
+mod answer;
+mod answering;
+mod command;
+mod description;
+mod fault;
 mod form;
+mod loading;
+mod refusal;
+mod running;
 mod status;
+mod words;
 
 pub use form::{Behaviour, Form, Pair};
 pub use status::Status;

@@ -1,0 +1,14 @@
+-- The words of a command line as their bytes, and the commands of the code as those of the definitions.
+use Rattle.std.specs.Prelude.{ℕ, List, String, string_bytes}
+use Rattle.std.specs.declared.alloc.Global.{Global}
+use Rattle.vg_top.specs.declared.command.Command.{Command}
+use Rattle.vg_top.specs.declared.command.Command.TheVariants.{Run}
+use Rattle.vg_top.specs.Command as command
+
+-- the bytes of a word
+abbrev pub word_bytes : String Global → List ℕ
+word_bytes word = string_bytes word
+
+-- the command that a value of the code stands for
+abbrev pub asked_of : Command → command.Command
+asked_of (Run description image bound) = command.Run description.now image.now bound

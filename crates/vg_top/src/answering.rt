@@ -1,0 +1,62 @@
+use crate::answer::Answer;
+use crate::command::Command;
+use crate::description::description_of;
+use crate::fault::Fault;
+use crate::loading::load_within;
+use crate::refusal::{not_built, too_long, usage_line};
+use crate::running::run_answer;
+use crate::status::Status;
+use crate::words::command_of;
+use std::alloc::{AllocError, Global};
+use vg_image::Image;
+use vg_io::Files;
+use vg_isa::Isa;
+
+ghost use Rattle.std.specs.Prelude.{◌≡◌, ◌≤◌, ◌<◌, [], IfOk, IfSome, IsErrOf, Some, MatchOption, map};
+ghost use Rattle.vg_io.specs.Count.{Rose};
+ghost use Rattle.vg_top.specs.Answering.{AnswersLoads};
+ghost use Rattle.vg_top.specs.Answers.{Answers, CommandAnswers, ImageAnswers, ImageTextAnswers, DescriptionAnswers, RunAnswers, Reports};
+ghost use Rattle.vg_top.specs.Words.{word_bytes, asked_of};
+
+/// A description has at most so many bytes.
+const DESCRIPTION_LIMIT: usize = 1 << 20;
+
+/// An image has at most so many bytes.
+const IMAGE_LIMIT: usize = 8 << 20;
+
+/// The answer of `run` to the text of an image.
+fn image_text_answer(alloc: Global, isa: &Isa, text: &[u8], bound: u64) -> Result<Answer, AllocError>
+    ensures { IfOk result (λ answer. ImageTextAnswers isa.now bound text.now [] answer.status answer.text.items) }
+{
+    Err(AllocError)
+}
+
+/// A refusal with this line.
+fn refused(text: Vec<u8>) -> Answer
+    ensures status { result.status ≡ Status.Refused }
+    ensures text { result.text ≡ text }
+{
+    Answer {
+        status: Status::Refused,
+        text,
+    }
+}
+
+/// The answer of `run` from the image on.
+fn image_answer<F: Files>(
+    alloc: Global,
+    files: &mut F,
+    isa: &Isa,
+    image: &str,
+    bound: u64,
+) -> Result<Answer, Fault>
+    ensures told { AnswersLoads (F.held files.old) (F.asked files.old) (F.asked files.new) result (λ held. ImageAnswers held isa.now image.now bound) }
+    ensures read { IsErrOf result Fault.Read → Rose (F.faults files.old) (F.faults files.new) }
+    ensures kept_faults { F.faults files.old ≤ F.faults files.new }
+    ensures same { F.held files.new ≡ F.held files.old }
+{
+    match load_within(alloc, files, image, IMAGE_LIMIT)? {
+        None => Ok(refused(too_long(alloc, image)?)),
+        Some(text) => Ok(image_text_answer(alloc, isa, text.as_slice(), bound)?),
+    }
+}

@@ -1,0 +1,38 @@
+use crate::command::Command;
+use vg_text::number::decimal_of;
+
+ghost use Rattle.std.specs.Prelude.{◌≡◌, ◌≤◌, List, map, length, string_bytes};
+ghost use Rattle.std.specs.Option.{option_map};
+ghost use Rattle.vg_top.specs.Command as command;
+ghost use Rattle.vg_top.specs.Words.{word_bytes, asked_of};
+
+/// At most so many steps or cycles are asked for.
+const MOST_STEPS: u64 = 1_000_000_000;
+
+/// A word that is a decimal number up to `most`, with no zero in front of another digit.
+fn number_up_to(most: u64, word: &str) -> Option<u64>
+    ensures { result ≡ command.number_up_to most word.now }
+{
+    let n = decimal_of(word.as_bytes())?;
+    if n <= most { Some(n) } else { None }
+}
+
+/// The command of a list of words; None where they are in no form.
+pub(crate) fn command_of(words: &[String]) -> Option<Command<'_>>
+    ensures { option_map asked_of result ≡ command.command_of (map word_bytes words.now) }
+{
+    match words {
+        [name, description, image, bound] => {
+            if name.as_str() != "run" {
+                return None;
+            }
+            let bound = number_up_to(MOST_STEPS, bound.as_str())?;
+            Some(Command::Run {
+                description: description.as_str(),
+                image: image.as_str(),
+                bound,
+            })
+        }
+        _ => None,
+    }
+}
