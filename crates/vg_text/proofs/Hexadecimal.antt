@@ -1,8 +1,8 @@
 -- The laws of hexadecimal numbers.
-use Rattle.std.proofs.Common.{◌≡◌, ℕ, zero, suc, ◌+◌, ◌-◌, ◌*◌, ◌/◌, ◌%◌, ◌^◌, ◌<◌, ◌≤◌, ◌≢◌, ◌⊎◌, Bool, true, false, not, ◌&&◌, eqb, leb, ltb, cond, List, [], ◌∷◌, ◌++◌, Option, Some, None, length, take, drop, get_or, set, refl, ap, sym, ◌∙◌, subst, inl, inr, arith}
+use Rattle.std.proofs.Common.{◌≡◌, ℕ, zero, suc, ◌+◌, ◌-◌, ◌*◌, ◌/◌, ◌%◌, ◌^◌, ◌<◌, ◌≤◌, ◌≢◌, not, eqb, List, [], ◌∷◌, ◌++◌, Some, None, length, take, drop, get_or, set, refl, ap, sym, ◌∙◌, subst, inl, inr, arith}
 use Rattle.std.specs.Prelude.{IsTrue}
 use Rattle.std.specs.List.{AllByRecursion}
-use Rattle.std.specs.Option.{option_map, option_and_then}
+use Rattle.std.specs.Option.{option_and_then}
 use Rattle.std.proofs.Math.Nat.{pow-suc, one-le-pow, mod-eq_of_lt, pow-le-pow_right, div-div-eq-div-mul}
 use Rattle.std.proofs.lemmas.Nat.{div-mul-add, mod-mul-add, mul-add-lt, div-add-mod', mod_below}
 use Rattle.std.proofs.lemmas.Bool.{ne_eqb, and_from, not_from_false, cases_lt}
@@ -71,9 +71,9 @@ hexadecimal_after-hexadecimal a zero n rest = let number : a ≡ a * 1 + n % 1 =
 hexadecimal_after-hexadecimal a (suc digits) n rest =
     let d : ℕ = n / 16 ^ digits % 16 in
     let number : (a * 16 + d) * 16 ^ digits + n % 16 ^ digits ≡ a * 16 ^ suc digits + n % 16 ^ suc digits =
-        omega (arith, ap (λ p. a * p) (pow-suc 16 digits), ap (λ p. n % p) (pow-suc 16 digits), mod_digit n (16 ^ digits) (pow_pos digits)) in
+    omega (arith, ap (λ p. a * p) (pow-suc 16 digits), ap (λ p. n % p) (pow-suc 16 digits), mod_digit n (16 ^ digits) (pow_pos digits)) in
     rw (hex_value-hex_digit d (mod_below (n / 16 ^ digits) 16 (omega arith)))
-        (hexadecimal_after-hexadecimal (a * 16 + d) digits n rest ∙ ap (λ m. Some (m, rest)) number)
+    (hexadecimal_after-hexadecimal (a * 16 + d) digits n rest ∙ ap (λ m. Some (m, rest)) number)
 
 -- what is written is read again, whatever follows it
 pub hexadecimal_at-hexadecimal : (digits n : ℕ) (rest : List ℕ) → n < 16 ^ digits → hexadecimal_at digits (hexadecimal digits n ++ rest) ≡ Some (n, rest)
@@ -95,19 +95,19 @@ is_read_after a zero text found is =
 is_read_after a (suc digits) [] found is = absurd (none-some found is)
 is_read_after a (suc digits) (c ∷ text) found is =
     elim (cases_option (hex_value c)) [
-        inl none ↦ let no = rw none at is in absurd (none-some found no)
+      | inl none ↦ let no = rw none at is in absurd (none-some found no)
       | inr w ↦
-            let tail = is_read_after (a * 16 + w.0) digits text found (rw w.1 at is) in
-            let digit = hex_digit-hex_value c w.0 w.1 in
-            let front : found.0 / 16 ^ digits ≡ a * 16 + w.0 = ap (λ n. n / 16 ^ digits) tail.number ∙ div-mul-add (a * 16 + w.0) (16 ^ digits) tail.low tail.below in
-            let last : found.0 / 16 ^ digits % 16 ≡ w.0 = ap (λ n. n % 16) front ∙ mod-mul-add a 16 w.0 digit.1 in
-            let head : hex_digit (found.0 / 16 ^ digits % 16) ≡ c = ap hex_digit last ∙ digit.0 in
-            record {
-                low = w.0 * 16 ^ digits + tail.low;
-                below = omega (arith, mul-add-lt w.0 (16 ^ digits) tail.low 16 digit.1 tail.below, pow-suc 16 digits);
-                number = omega (arith, tail.number, ap (λ p. a * p) (pow-suc 16 digits));
-                text_is = rw head (ap (λ t. c ∷ t) tail.text_is);
-            }
+          let tail = is_read_after (a * 16 + w.0) digits text found (rw w.1 at is) in
+          let digit = hex_digit-hex_value c w.0 w.1 in
+          let front : found.0 / 16 ^ digits ≡ a * 16 + w.0 = ap (λ n. n / 16 ^ digits) tail.number ∙ div-mul-add (a * 16 + w.0) (16 ^ digits) tail.low tail.below in
+          let last : found.0 / 16 ^ digits % 16 ≡ w.0 = ap (λ n. n % 16) front ∙ mod-mul-add a 16 w.0 digit.1 in
+          let head : hex_digit (found.0 / 16 ^ digits % 16) ≡ c = ap hex_digit last ∙ digit.0 in
+          record {
+            low = w.0 * 16 ^ digits + tail.low;
+            below = omega (arith, mul-add-lt w.0 (16 ^ digits) tail.low 16 digit.1 tail.below, pow-suc 16 digits);
+            number = omega (arith, tail.number, ap (λ p. a * p) (pow-suc 16 digits));
+            text_is = rw head (ap (λ t. c ∷ t) tail.text_is);
+          }
     ]
 
 -- what is read is written so
@@ -122,7 +122,7 @@ hexadecimal_after_short a zero text short = absurd (omega arith)
 hexadecimal_after_short a (suc digits) [] short = refl
 hexadecimal_after_short a (suc digits) (c ∷ text) short =
     elim (cases_option (hex_value c)) [
-        inl none ↦ rw none refl
+      | inl none ↦ rw none refl
       | inr w ↦ rw w.1 (hexadecimal_after_short (a * 16 + w.0) digits text (omega arith))
     ]
 
@@ -198,7 +198,7 @@ after_add a (suc j) k (c ∷ text) =
     let count : suc j + k ≡ suc (j + k) = omega arith in
     ap (λ m. hexadecimal_after a m (c ∷ text)) count
     ∙ elim (cases_option (hex_value c)) [
-        inl none ↦ rw none refl
+      | inl none ↦ rw none refl
       | inr w ↦ rw w.1 (after_add (a * 16 + w.0) j k text)
     ]
 
@@ -213,10 +213,10 @@ after_base a k text found is =
 after_base_none : (a k : ℕ) (text : List ℕ) → hexadecimal_after 0 k text ≡ None → hexadecimal_after a k text ≡ None
 after_base_none a k text is =
     elim (cases_option (hexadecimal_after a k text)) [
-        inl none ↦ none
+      | inl none ↦ none
       | inr w ↦
-            let read = is_read_after a k text w.0 w.1 in
-            absurd (none-some _ (sym is ∙ ap (hexadecimal_after 0 k) read.text_is ∙ hexadecimal_after-hexadecimal 0 k w.0.0 w.0.1))
+          let read = is_read_after a k text w.0 w.1 in
+          absurd (none-some _ (sym is ∙ ap (hexadecimal_after 0 k) read.text_is ∙ hexadecimal_after-hexadecimal 0 k w.0.0 w.0.1))
     ]
 
 pub hexadecimal_at-add : (j k : ℕ) (text : List ℕ) (high low : ℕ × List ℕ) → hexadecimal_at j text ≡ Some high → hexadecimal_at k high.1 ≡ Some low → hexadecimal_at (j + k) text ≡ Some (high.0 * 16 ^ k + low.0, low.1)
@@ -235,12 +235,12 @@ hexadecimal_at-add_later_none j k text high first second = after_add 0 j k text 
 pub wide_number : (digits j k high : ℕ) → j ≡ digits - 16 → j + k ≡ digits → high < 16 ^ j → high * 2 ^ 64 ≡ high * 16 ^ k
 wide_number digits j k high first parts small =
     elim (cases_lt digits 17) [
-        inl few ↦
-            let none : j ≡ 0 = omega arith in
-            let no_high : high ≡ 0 = omega (arith, ap (λ m. 16 ^ m) none) in
-            let both : 0 * 2 ^ 64 ≡ 0 * 16 ^ k = omega arith in
-            ap (λ h. h * 2 ^ 64) no_high ∙ both ∙ ap (λ h. h * 16 ^ k) (sym no_high)
+      | inl few ↦
+          let none : j ≡ 0 = omega arith in
+          let no_high : high ≡ 0 = omega (arith, ap (λ m. 16 ^ m) none) in
+          let both : 0 * 2 ^ 64 ≡ 0 * 16 ^ k = omega arith in
+          ap (λ h. h * 2 ^ 64) no_high ∙ both ∙ ap (λ h. h * 16 ^ k) (sym no_high)
       | inr more ↦
-            let rest : k ≡ 16 = omega arith in
-            ap (λ m. high * 16 ^ m) (sym rest)
+          let rest : k ≡ 16 = omega arith in
+          ap (λ m. high * 16 ^ m) (sym rest)
     ]

@@ -1,6 +1,6 @@
 //! Numbers as text: hexadecimal of a fixed length in lower case, and decimal.
 
-ghost use Rattle.std.specs.Prelude.{◌≡◌, ◌++◌, ◌^◌, ◌<◌, ◌≤◌, ◌↔◌, ℕ, List, Some, OnOk, OnErr, decimal};
+ghost use Rattle.std.specs.Prelude.{◌≡◌, ◌++◌, ◌^◌, ◌<◌, ◌≤◌, ◌↔◌, ℕ, List, Some, IfSome, OnOk, OnErr, decimal};
 ghost use Rattle.std.specs.Option.{option_map};
 ghost use Rattle.vg_text.specs.Number;
 
@@ -29,7 +29,11 @@ fn hex_digit(digit: u8) -> u8
     requires { digit < 16 }
     ensures { result ≡ Number.hex_digit digit }
 {
-    if digit < 10 { b'0' + digit } else { b'a' - 10 + digit }
+    if digit < 10 {
+        b'0' + digit
+    } else {
+        b'a' - 10 + digit
+    }
 }
 
 /// Writes the number at the end, in decimal with no zero in front.
@@ -53,7 +57,8 @@ pub fn push_decimal(out: &mut Vec<u8>, n: u64) -> Result<(), AllocError>
 /// Reads this many lower case hexadecimal digits at the front: the number, and what follows them.
 pub fn hexadecimal_at(text: &[u8], digits: u8) -> Option<(u64, &[u8])>
     requires { digits ≤ 16 }
-    ensures { option_map (λ found. (found.0, found.1.now)) result ≡ Number.hexadecimal_at digits text.now }
+    ensures below { IfSome result (λ found. found.0 < 16 ^ digits) }
+    ensures exact { option_map (λ found. (found.0, found.1.now)) result ≡ Number.hexadecimal_at digits text.now }
 {
     let len = usize::from(digits);
     if text.len() < len {
@@ -71,7 +76,8 @@ pub fn hexadecimal_at(text: &[u8], digits: u8) -> Option<(u64, &[u8])>
 /// As `hexadecimal_at`, for up to 32 digits.
 pub fn wide_hexadecimal_at(text: &[u8], digits: u8) -> Option<(u128, &[u8])>
     requires { digits ≤ 32 }
-    ensures { option_map (λ found. (found.0, found.1.now)) result ≡ Number.hexadecimal_at digits text.now }
+    ensures below { IfSome result (λ found. found.0 < 16 ^ digits) }
+    ensures exact { option_map (λ found. (found.0, found.1.now)) result ≡ Number.hexadecimal_at digits text.now }
 {
     let front = digits.saturating_sub(16);
     let (high, text) = hexadecimal_at(text, front)?;
@@ -131,11 +137,11 @@ fn decimal_value(c: u8) -> Option<u8>
 /// number's hexadecimal and then the rest.
 pub fn hexadecimal_reads_back()
     ensures { (digits n : ℕ) (text rest : List ℕ) → (Number.hexadecimal_at digits text ≡ Some (n, rest)) ↔ ((n < 16 ^ digits) × (text ≡ Number.hexadecimal digits n ++ rest)) }
-{
-}
+{}
 
-/// A text is read as a number of up to 64 digits exactly where it is that number's decimal.
+/// A text is read as a number exactly where it is that number's decimal, for a number of up to 64 digits,
+/// and for one of up to 64 bits.
 pub fn decimal_reads_back()
-    ensures { (n : ℕ) (text : List ℕ) → n < 10 ^ 64 → (Number.decimal_of text ≡ Some n) ↔ (text ≡ decimal n) }
-{
-}
+    ensures digits { (n : ℕ) (text : List ℕ) → n < 10 ^ 64 → (Number.decimal_of text ≡ Some n) ↔ (text ≡ decimal n) }
+    ensures bits { (n : ℕ) (text : List ℕ) → (Number.option_below (2 ^ 64) (Number.decimal_of text) ≡ Some n) ↔ ((n < 2 ^ 64) × (text ≡ decimal n)) }
+{}

@@ -36,13 +36,11 @@ pub fn line_at(text: &[u8]) -> Option<(&[u8], &[u8])>
 /// A text is the prefix and the rest exactly where the rest follows the prefix in it.
 pub fn prefix_reads_back()
     ensures { (prefix text rest : List ℕ) → (Piece.rest_after prefix text ≡ Some rest) ↔ (text ≡ prefix ++ rest) }
-{
-}
+{}
 
 /// A text is a line, a line feed and the rest exactly where the line and the rest are found in it, for a
 /// line with no line feed.
 pub fn line_reads_back()
     ensures found { (text line rest : List ℕ) → (Piece.line_at text ≡ Some (line, rest)) ↔ (IsTrue (Piece.lacks 10 line) × (text ≡ line ++ 10 ∷ rest)) }
     ensures none { (text : List ℕ) → (Piece.line_at text ≡ None) ↔ IsTrue (Piece.lacks 10 text) }
-{
-}
+{}

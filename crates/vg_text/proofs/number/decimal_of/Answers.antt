@@ -1,4 +1,4 @@
-use Rattle.std.proofs.Common.{◌≡◌, ℕ, ◌^◌, sym, ap, ◌∙◌, arith}
+use Rattle.std.proofs.Common.{◌^◌, sym, ap, ◌∙◌}
 use Rattle.std.proofs.lemmas.Bool.{eqb-true, eqb-false}
 use Rattle.vg_text.specs.Number.{option_below, decimal_of, decimal_after}
 use Rattle.vg_text.proofs.Decimal.{decimal_of-nil, decimal_of-zero, decimal_of-leading_zero, decimal_of-no_leading_zero}

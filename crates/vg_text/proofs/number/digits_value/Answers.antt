@@ -1,4 +1,4 @@
-use Rattle.std.proofs.Common.{◌≡◌, ℕ, ◌<◌, ◌≤◌, ◌+◌, ◌*◌, ◌^◌, drop, length, sym, ap, ◌∙◌, arith}
+use Rattle.std.proofs.Common.{◌≡◌, ◌+◌, ◌*◌, ◌^◌, drop, sym, ap, ◌∙◌, arith}
 use Rattle.vg_text.specs.Number.{decimal_after, option_below}
 use Rattle.vg_text.proofs.Decimal.{decimal_after_more, decimal_after_none, decimal_after_all, option_below-overflow, option_below-small}
 use Rattle.vg_text.proofs.number.digits_value.Goals as goal
@@ -16,10 +16,10 @@ pub loop-c-preserved : goal.loop-c-preserved
 loop-c-preserved c =
     let number : c.in_ok-n.n ≡ c.loop-c.n * 10 + c.in_ok-digit.digit = omega (arith, c.in_ok-n.ensures.1, c.in_ok-shifted.ensures.1) in
     record {
-        number = ap (λ m. decimal_after m (drop (c.loop-c.c-index + 1) c.args.text.now)) number
-            ∙ decimal_after_more c.loop-c.n c.loop-c.c-index c.in_ok-digit.digit c.args.text.now (omega arith) (sym c.in_ok-digit.ensures)
-            ∙ c.loop-c.invariant.number;
-        below = omega (arith, c.in_ok-n.ensures.0, c.in_ok-n.ensures.1);
+      number = ap (λ m. decimal_after m (drop (c.loop-c.c-index + 1) c.args.text.now)) number
+          ∙ decimal_after_more c.loop-c.n c.loop-c.c-index c.in_ok-digit.digit c.args.text.now (omega arith) (sym c.in_ok-digit.ensures)
+          ∙ c.loop-c.invariant.number;
+      below = omega (arith, c.in_ok-n.ensures.0, c.in_ok-n.ensures.1);
     }
 
 pub returns : goal.returns
