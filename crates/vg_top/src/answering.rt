@@ -12,9 +12,10 @@ use vg_image::Image;
 use vg_io::Files;
 use vg_isa::Isa;
 
-ghost use Rattle.std.specs.Prelude.{◌≡◌, ◌≤◌, ◌<◌, [], IfOk, IfSome, IsErrOf, Some, MatchOption, map};
+ghost use Rattle.std.specs.Prelude.{◌≡◌, ◌≤◌, ◌<◌, [], ◌∷◌, IfOk, IfSome, IsErrOf, Some, MatchOption, map};
+ghost use Rattle.std.specs.Option.{option_map};
 ghost use Rattle.vg_io.specs.Count.{Rose};
-ghost use Rattle.vg_top.specs.Answering.{AnswersLoads};
+ghost use Rattle.vg_top.specs.Answering.{AnswersLoads, AsksNames, IsWhole, names_of};
 ghost use Rattle.vg_top.specs.Answers.{Answers, CommandAnswers, ImageAnswers, ImageTextAnswers, DescriptionAnswers, RunAnswers, Reports};
 ghost use Rattle.vg_top.specs.Words.{word_bytes, asked_of};
 
@@ -26,7 +27,8 @@ const IMAGE_LIMIT: usize = 8 << 20;
 
 /// The answer of `run` to the text of an image.
 fn image_text_answer(alloc: Global, isa: &Isa, text: &[u8], bound: u64) -> Result<Answer, AllocError>
-    ensures { IfOk result (λ answer. ImageTextAnswers isa.now bound text.now [] answer.status answer.text.items) }
+    ensures right { IfOk result (λ answer. ImageTextAnswers isa.now bound text.now [] answer.status answer.text.items) }
+    ensures whole { IfOk result (λ answer. IsWhole answer.status) }
 {
     Err(AllocError)
 }
@@ -53,10 +55,76 @@ fn image_answer<F: Files>(
     ensures told { AnswersLoads (F.held files.old) (F.asked files.old) (F.asked files.new) result (λ held. ImageAnswers held isa.now image.now bound) }
     ensures read { IsErrOf result Fault.Read → Rose (F.faults files.old) (F.faults files.new) }
     ensures kept_faults { F.faults files.old ≤ F.faults files.new }
+    ensures asked { AsksNames 1 (image.now ∷ []) (F.asked files.old) (F.asked files.new) result }
+    ensures whole { IfOk result (λ answer. IsWhole answer.status) }
     ensures same { F.held files.new ≡ F.held files.old }
 {
     match load_within(alloc, files, image, IMAGE_LIMIT)? {
         None => Ok(refused(too_long(alloc, image)?)),
         Some(text) => Ok(image_text_answer(alloc, isa, text.as_slice(), bound)?),
+    }
+}
+
+/// The answer of `run` to the text of a description.
+fn description_answer<F: Files>(
+    alloc: Global,
+    files: &mut F,
+    text: &[u8],
+    image: &str,
+    bound: u64,
+) -> Result<Answer, Fault>
+    ensures told { AnswersLoads (F.held files.old) (F.asked files.old) (F.asked files.new) result (λ held. DescriptionAnswers held image.now bound text.now) }
+    ensures read { IsErrOf result Fault.Read → Rose (F.faults files.old) (F.faults files.new) }
+    ensures kept_faults { F.faults files.old ≤ F.faults files.new }
+    ensures asked { AsksNames 0 (image.now ∷ []) (F.asked files.old) (F.asked files.new) result }
+    ensures whole { IfOk result (λ answer. IsWhole answer.status) }
+    ensures same { F.held files.new ≡ F.held files.old }
+{
+    match description_of(alloc, text)? {
+        None => Ok(refused(not_built(alloc, 1, 1)?)),
+        Some(isa) => image_answer(alloc, files, &isa, image, bound),
+    }
+}
+
+/// The answer of `run`.
+fn run_command<F: Files>(
+    alloc: Global,
+    files: &mut F,
+    description: &str,
+    image: &str,
+    bound: u64,
+) -> Result<Answer, Fault>
+    ensures told { AnswersLoads (F.held files.old) (F.asked files.old) (F.asked files.new) result (λ held. RunAnswers held description.now image.now bound) }
+    ensures read { IsErrOf result Fault.Read → Rose (F.faults files.old) (F.faults files.new) }
+    ensures kept_faults { F.faults files.old ≤ F.faults files.new }
+    ensures asked { AsksNames 1 (description.now ∷ image.now ∷ []) (F.asked files.old) (F.asked files.new) result }
+    ensures whole { IfOk result (λ answer. IsWhole answer.status) }
+    ensures same { F.held files.new ≡ F.held files.old }
+{
+    match load_within(alloc, files, description, DESCRIPTION_LIMIT)? {
+        None => Ok(refused(too_long(alloc, description)?)),
+        Some(text) => description_answer(alloc, files, text.as_slice(), image, bound),
+    }
+}
+
+/// The answer to a command; None stands for words in no form.
+pub(crate) fn command_answer<F: Files>(alloc: Global, files: &mut F, command: Option<Command<'_>>) -> Result<Answer, Fault>
+    ensures told { AnswersLoads (F.held files.old) (F.asked files.old) (F.asked files.new) result (λ held. CommandAnswers held (option_map asked_of command.entry)) }
+    ensures read { IsErrOf result Fault.Read → Rose (F.faults files.old) (F.faults files.new) }
+    ensures kept_faults { F.faults files.old ≤ F.faults files.new }
+    ensures asked { AsksNames 0 (names_of (option_map asked_of command.entry)) (F.asked files.old) (F.asked files.new) result }
+    ensures whole { IfOk result (λ answer. IsWhole answer.status) }
+    ensures same { F.held files.new ≡ F.held files.old }
+{
+    match command {
+        None => Ok(Answer {
+            status: Status::Usage,
+            text: usage_line(alloc)?,
+        }),
+        Some(Command::Run {
+            description,
+            image,
+            bound,
+        }) => run_command(alloc, files, description, image, bound),
     }
 }

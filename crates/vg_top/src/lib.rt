@@ -8,10 +8,12 @@ mod description;
 mod fault;
 mod form;
 mod loading;
+mod program;
 mod refusal;
 mod running;
 mod status;
 mod words;
 
 pub use form::{Behaviour, Form, Pair};
+pub use program::vadlgen;
 pub use status::Status;
