@@ -1,6 +1,7 @@
 //! The program.
 #![tactic(auto)]
 
+mod build;
 mod form;
 mod status;
 
