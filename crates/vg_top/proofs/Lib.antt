@@ -1,1 +1,2 @@
 pub mod FormTyping
+pub mod FormWrites

@@ -51,7 +51,9 @@ write_of behaviour = record {
   guard = expr.Const (record { width = 1; number = 1 });
   at = Some (expr.Field (field_at 4));
   value = value_tree behaviour;
-  guard_spot = None; at_spot = None; value_spot = 0;
+  guard_spot = None;
+  at_spot = None;
+  value_spot = 0;
 }
 
 -- the numbers of a pair fit their fields
@@ -70,7 +72,10 @@ instr_of pair = record {
   format = record { 0 = 0 };
   fixed = fixed_of pair;
   writes = write_of pair.behaviour ∷ [];
-  next = None; template = None; next_spots = None; read_spot = None;
+  next = None;
+  template = None;
+  next_spots = None;
+  read_spot = None;
 }
 
 -- register file X : Bits<5> -> Bits<32> zero 0

@@ -1,3 +1,7 @@
+ghost use Rattle.std.specs.Prelude.{◌≡◌, ℕ, ◌+◌, ◌*◌, ◌<◌, ◌^◌, ◌∷◌, [], map, codes, Some, None, IfOk, IsTrue};
+ghost use Rattle.std.specs.List.{list_all};
+ghost use Rattle.vg_top.specs.Form.{field_at, field_decl, fields_r, format_r, register_of, value_tree, write_of, fits_fields, fixed_of, instr_of, register_file, parts_of};
+
 use crate::form::{Behaviour, Form, Pair};
 use sqlite_items::{Boxed, Items};
 use std::alloc::{AllocError, Global};
@@ -7,16 +11,17 @@ use vg_isa::{
     RegId, ResourceId, Text, Write,
 };
 
-ghost use Rattle.std.specs.Prelude.{◌≡◌, ℕ, ◌+◌, ◌*◌, ◌<◌, ◌^◌, ◌∷◌, [], map, codes, Some, None, IfOk, IsTrue};
-ghost use Rattle.std.specs.List.{list_all};
-ghost use Rattle.vg_top.specs.Form.{field_at, field_decl, fields_r, format_r, register_of, value_tree, write_of, fits_fields, fixed_of, instr_of, register_file, parts_of};
-
 /// The places of the fields of the one format.
 const F7: u32 = 0;
+
 const RS2: u32 = 1;
+
 const RS1: u32 = 2;
+
 const F3: u32 = 3;
+
 const RD: u32 = 4;
+
 const OP: u32 = 5;
 
 fn field_at(index: u32) -> FieldId
@@ -51,7 +56,7 @@ fn fields(alloc: Global) -> Result<Items<FieldDecl>, AllocError>
         field_decl(alloc, b"rs1", 19, 15)?,
         field_decl(alloc, b"f3", 14, 12)?,
         field_decl(alloc, b"rd", 11, 7)?,
-        field_decl(alloc, b"op", 6, 0)?
+        field_decl(alloc, b"op", 6, 0)?,
     ]?;
     Ok(Items::from_vec(fields))
 }
