@@ -1,6 +1,6 @@
 -- The descriptions that are read so far: a name, and instructions with one of two behaviours and with
 -- numbers for three fields of their encoding.
-use Rattle.std.specs.Prelude.{ℕ, List, [], ◌∷◌, map, codes, Option, Some, None}
+use Rattle.std.specs.Prelude.{ℕ, Bool, ◌&&◌, nat_lt, List, [], ◌∷◌, map, codes, Option, Some, None}
 use Rattle.vg_bits.specs.BitValue.{BitValue}
 use Rattle.vg_isa.specs.declared.isa.Parts.{Parts}
 use Rattle.vg_isa.specs.declared.format.Format.{Format}
@@ -27,12 +27,13 @@ abbrev pub field_decl : List ℕ → ℕ → ℕ → FieldDecl
 field_decl name high low = record { name = name; ranges = (high, low) ∷ [] }
 
 -- format R : Bits<32> = { f7 [31..25], rs2 [24..20], rs1 [19..15], f3 [14..12], rd [11..7], op [6..0] }
+abbrev pub fields_r : List FieldDecl
+fields_r =
+    field_decl (codes "f7") 31 25 ∷ field_decl (codes "rs2") 24 20 ∷ field_decl (codes "rs1") 19 15
+    ∷ field_decl (codes "f3") 14 12 ∷ field_decl (codes "rd") 11 7 ∷ field_decl (codes "op") 6 0 ∷ []
+
 abbrev pub format_r : Format
-format_r = record {
-  name = codes "R";
-  fields = field_decl (codes "f7") 31 25 ∷ field_decl (codes "rs2") 24 20 ∷ field_decl (codes "rs1") 19 15
-    ∷ field_decl (codes "f3") 14 12 ∷ field_decl (codes "rd") 11 7 ∷ field_decl (codes "op") 6 0 ∷ [];
-}
+format_r = record { name = codes "R"; fields = fields_r }
 
 -- X(f) of the field at a place
 abbrev pub register_of : ℕ → Expr
@@ -50,18 +51,36 @@ write_of behaviour = record {
   guard = expr.Const (record { width = 1; number = 1 });
   at = Some (expr.Field (field_at 4));
   value = value_tree behaviour;
-  guard_spot = None; at_spot = None; value_spot = 0;
+  guard_spot = None;
+  at_spot = None;
+  value_spot = 0;
 }
+
+-- the numbers of a pair fit their fields
+abbrev pub fits_fields : Pair → Bool
+fits_fields pair = nat_lt pair.f7 128 && nat_lt pair.f3 8 && nat_lt pair.op 128
+
+-- the fields that the encoding fixes
+abbrev pub fixed_of : Pair → List (FieldId × BitValue)
+fixed_of pair =
+    (field_at 0, record { width = 7; number = pair.f7 }) ∷ (field_at 3, record { width = 3; number = pair.f3 })
+    ∷ (field_at 5, record { width = 7; number = pair.op }) ∷ []
 
 abbrev pub instr_of : Pair → Instr
 instr_of pair = record {
   name = pair.name;
   format = record { 0 = 0 };
-  fixed = (field_at 0, record { width = 7; number = pair.f7 }) ∷ (field_at 3, record { width = 3; number = pair.f3 })
-    ∷ (field_at 5, record { width = 7; number = pair.op }) ∷ [];
+  fixed = fixed_of pair;
   writes = write_of pair.behaviour ∷ [];
-  next = None; template = None; next_spots = None; read_spot = None;
+  next = None;
+  template = None;
+  next_spots = None;
+  read_spot = None;
 }
+
+-- register file X : Bits<5> -> Bits<32> zero 0
+abbrev pub register_file : RegDecl
+register_file = record { name = codes "X"; index = Some 5; width = 32; zero = Some 0 }
 
 -- the description of a form; it keeps no places of the text
 abbrev pub parts_of : Form → Parts
@@ -70,7 +89,7 @@ parts_of form = record {
   word = 32;
   pc = record { name = codes "PC"; width = 32 };
   memory = codes "MEM";
-  regs = record { name = codes "X"; index = Some 5; width = 32; zero = Some 0 } ∷ [];
+  regs = register_file ∷ [];
   formats = format_r ∷ [];
   instrs = map instr_of form.pairs;
   abi = None;

@@ -3,6 +3,7 @@
 
 mod answer;
 mod answering;
+mod build;
 mod command;
 mod description;
 mod fault;
