@@ -2,6 +2,7 @@
 #![tactic(auto)]
 
 mod form;
+mod refusal;
 mod status;
 
 pub use form::{Behaviour, Form, Pair};
