@@ -3,6 +3,8 @@ use Rattle.std.specs.Prelude.{◌≡◌, ℕ, Bool, true, false, ◌&&◌, ◌||
 use Rattle.vg_text.specs.Piece.{rest_after}
 use Rattle.vg_isa.specs.declared.isa.Parts.{Parts}
 use Rattle.vg_image.specs.declared.image.Image.{Image}
+use Rattle.vg_image.specs.declared.image_fault.ImageFault.{ImageFault}
+use Rattle.vg_image.specs.declared.image_fault.ImageFault.TheVariants as faults
 use Rattle.vg_image.specs.Spelling.{IsImage, spelling}
 
 -- the text is the spelling of this image, which has no data and no symbols
@@ -28,3 +30,15 @@ follows_unbuilt (c ∷ text) = (nat_eq c 10 && begins_unbuilt text) || follows_u
 -- a line of the text begins as a line of data or of a symbol
 abbrev pub has_unbuilt_line : List ℕ → Bool
 has_unbuilt_line text = begins_unbuilt text || follows_unbuilt text
+
+-- What a refusal says. Want of memory says nothing.
+abbrev pub Refuses : Parts → List ℕ → ImageFault → Type 0
+Refuses d text (faults.Line line) = IsNoImage d text × (has_unbuilt_line text ≡ false)
+Refuses d text (faults.NotBuilt line) = IsNoImage d text × (has_unbuilt_line text ≡ true)
+Refuses d text faults.OutOfMemory = Unit {0}
+
+-- which refusal a text has that is no image
+abbrev pub IsRefusalOf : List ℕ → ImageFault → Type 0
+IsRefusalOf text (faults.Line line) = has_unbuilt_line text ≡ false
+IsRefusalOf text (faults.NotBuilt line) = has_unbuilt_line text ≡ true
+IsRefusalOf text faults.OutOfMemory = ⊥

@@ -1,6 +1,6 @@
 -- The text of an image. Each image has one spelling.
-use Rattle.std.specs.Prelude.{◌≡◌, ℕ, ◌+◌, ◌*◌, ◌/◌, ◌^◌, ◌<◌, ◌≤◌, ◌%◌, List, [], ◌∷◌, ◌++◌, codes, flat_map, length, take, drop, All}
-use Rattle.std.specs.List.{range_with_len}
+use Rattle.std.specs.Prelude.{◌≡◌, ℕ, ◌+◌, ◌*◌, ◌/◌, ◌^◌, ◌<◌, ◌≤◌, ◌%◌, List, [], ◌∷◌, ◌++◌, codes, flat_map, length, take, drop, All, IsTrue, Bool, ◌&&◌, ◌||◌, nat_eq, nat_le, nat_lt}
+use Rattle.std.specs.List.{range_with_len, list_all}
 use Rattle.vg_text.specs.Number.{hexadecimal}
 use Rattle.vg_isa.specs.declared.isa.Parts.{Parts}
 use Rattle.vg_image.specs.declared.image.Image.{Image}
@@ -40,8 +40,18 @@ spelling d i =
     ++ flat_map (symbol_line d) i.symbols
     ++ codes "end" ++ 10 ∷ []
 
+-- a byte of a word: a letter, a digit, `_`, `.`, `+`, `-`, or one above 127
+abbrev pub is_word_byte : ℕ → Bool
+is_word_byte c =
+    (nat_le 48 c && nat_le c 57) || (nat_le 65 c && nat_le c 90) || (nat_le 97 c && nat_le c 122)
+    || nat_eq c 95 || nat_eq c 46 || nat_eq c 43 || nat_eq c 45 || nat_lt 127 c
+
+-- a symbol's name is one word, and its address is below 2 ^ W
+abbrev pub IsSymbol : Parts → Symbol → Type 0
+IsSymbol d symbol = (0 < length symbol.name) × IsTrue (list_all is_word_byte symbol.name) × (symbol.at < 2 ^ d.pc.width)
+
 -- what a spelled image keeps: addresses below 2 ^ W, a base on a word's boundary, and code and data that end
--- at 2 ^ W at most
+-- at 2 ^ W at most, and symbols
 pub record IsImage (d : Parts) (i : Image) : Type 0 where
   pub aligned : i.base % word_bytes d ≡ 0
   pub base : i.base < 2 ^ d.pc.width
@@ -52,3 +62,4 @@ pub record IsImage (d : Parts) (i : Image) : Type 0 where
   pub words : All (λ word. word < 2 ^ d.word) i.code
   pub code_end : i.base + word_bytes d * length i.code ≤ 2 ^ d.pc.width
   pub data_end : i.data_base + length i.bytes ≤ 2 ^ d.pc.width
+  pub symbols : All (IsSymbol d) i.symbols
