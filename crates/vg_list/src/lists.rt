@@ -1,0 +1,3 @@
+pub struct Lists {
+    pub x: u8,
+}
