@@ -121,6 +121,15 @@ module _ (next prev : Link → Link) where
       let rest = one_place k l i j before.0 xs ys one two before.1 before_at in
       (rest.0, ap suc rest.1)
 
+  -- no node stands before itself
+  pub prev_self : (l : ℕ) (xs : List ℕ) (place n : ℕ) → IsChain next prev (Sentinel l) xs (Sentinel l) → slice_get xs place ≡ Some n → prev (Node n) ≢ Node n
+  prev_self l xs zero n chain at = λ same. node_sentinel n l (sym same ∙ prev_first (Sentinel l) xs l n chain at)
+  prev_self l xs (suc place) n chain at = λ same.
+      let before = prev_later (Sentinel l) xs l place n chain at in
+      let is_n : before.0 ≡ n = same_node before.0 n (sym before.2 ∙ same) in
+      let twice = one_place l l place (suc place) n xs xs chain chain (before.1 ∙ ap (λ (m : ℕ). Some m) is_n) at in
+      absurd (let bad : place ≡ suc place = twice.1 in omega arith)
+
 -- What a change leaves of a chain. The primed links are those after it.
 module _ (next prev next' prev' : Link → Link) where
   -- the links that led somewhere are as before

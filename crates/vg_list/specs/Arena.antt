@@ -48,6 +48,17 @@ pub record Joins (old new : Arena) (before after : Link) : Type 0 where
   pub prev_here : prev_link new after ≡ before
   pub prev_others : (link : Link) → link ≢ after → prev_link new link ≡ prev_link old link
 
+-- the node has no links, and each other link is as before
+pub record Clears (old new : Arena) (node : ℕ) : Type 0 where
+  pub next_here : next_link new (Node node) ≡ Unlinked
+  pub next_others : (link : Link) → link ≢ Node node → next_link new link ≡ next_link old link
+  pub prev_others : (link : Link) → link ≢ Node node → prev_link new link ≡ prev_link old link
+
+-- there are as many nodes and lists as before
+pub record SameCounts (old new : Arena) : Type 0 where
+  pub nodes : length new.nodes.items ≡ length old.nodes.items
+  pub sentinels : length new.sentinels.items ≡ length old.sentinels.items
+
 -- the nodes from this link on, at most `count` of them
 abbrev pub nodes_from : ℕ → (Link → Link) → Link → List ℕ
 nodes_from zero next link = []

@@ -1,7 +1,5 @@
-ghost use Rattle.std.specs.Prelude.{◌≡◌, length};
-ghost use Rattle.vg_list.specs.Arena.{next_link, prev_link, IsInRange, SetsNext, SetsPrev, Joins};
-
-use std::alloc::{AllocError, Global};
+ghost use Rattle.std.specs.Prelude.{◌≡◌, ◌<◌, length};
+ghost use Rattle.vg_list.specs.Arena.{next_link, prev_link, IsInRange, SetsNext, SetsPrev, Joins, Clears, SameCounts};
 
 use crate::link::Link;
 use crate::links::Links;
@@ -41,8 +39,7 @@ impl Arena {
     fn set_next(&mut self, at: Link, to: Link)
         requires { IsInRange self.old at }
         ensures links { SetsNext self.old self.new at to }
-        ensures nodes { length self.new.nodes.items ≡ length self.old.nodes.items }
-        ensures sentinels { length self.new.sentinels.items ≡ length self.old.sentinels.items }
+        ensures counts { SameCounts self.old self.new }
     {
         match at {
             Link::Node(node) => self.nodes[node as usize].next = to,
@@ -54,8 +51,7 @@ impl Arena {
     fn set_prev(&mut self, at: Link, to: Link)
         requires { IsInRange self.old at }
         ensures links { SetsPrev self.old self.new at to }
-        ensures nodes { length self.new.nodes.items ≡ length self.old.nodes.items }
-        ensures sentinels { length self.new.sentinels.items ≡ length self.old.sentinels.items }
+        ensures counts { SameCounts self.old self.new }
     {
         match at {
             Link::Node(node) => self.nodes[node as usize].prev = to,
@@ -69,10 +65,21 @@ impl Arena {
         requires before { IsInRange self.old before }
         requires after { IsInRange self.old after }
         ensures links { Joins self.old self.new before after }
-        ensures nodes { length self.new.nodes.items ≡ length self.old.nodes.items }
-        ensures sentinels { length self.new.sentinels.items ≡ length self.old.sentinels.items }
+        ensures counts { SameCounts self.old self.new }
     {
         self.set_next(before, after);
         self.set_prev(after, before);
+    }
+
+    /// Takes the links off a node.
+    pub fn clear(&mut self, node: u32)
+        requires { node < length self.old.nodes.items }
+        ensures links { Clears self.old self.new node }
+        ensures counts { SameCounts self.old self.new }
+    {
+        self.nodes[node as usize] = Links {
+            prev: Link::Unlinked,
+            next: Link::Unlinked,
+        };
     }
 }
