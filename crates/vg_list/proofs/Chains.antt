@@ -75,7 +75,8 @@ module _ (next prev : Link → Link) where
       rw (← same) (ap next chain.1 ∙ chain.0)
   next-prev from (x ∷ xs) l (suc place) n chain at = next-prev (Node x) xs l place n chain.2 at
 
-  prev-next_first : (from : Link) (xs : List ℕ) (l : ℕ) → IsChain next prev from xs (Sentinel l) → prev (next from) ≡ from
+  -- the link back to the chain's start
+  pub prev-next_first : (from : Link) (xs : List ℕ) (l : ℕ) → IsChain next prev from xs (Sentinel l) → prev (next from) ≡ from
   prev-next_first from [] l chain = ap prev chain.0 ∙ chain.1
   prev-next_first from (x ∷ xs) l chain = ap prev chain.0 ∙ chain.1
 

@@ -8,7 +8,7 @@ use Rattle.vg_list.specs.declared.link.Link.TheVariants.{Node, Sentinel, Unlinke
 use Rattle.vg_list.specs.declared.arena.Arena.{Arena}
 use Rattle.vg_list.specs.NodeLists.{NodeLists, nodes_of, IsAt, IsLinked, IsDisjoint, inserted_before, without}
 use Rattle.vg_list.specs.Arena.{next_link, prev_link, IsInRange, IsChain, lists_of, Represents, IsSound, Joins, Clears, SameCounts}
-use Rattle.vg_list.proofs.Chains.{same_node, node_sentinel, node_unlinked, sentinel_unlinked, same_sentinel, next-prev, prev-next, next-prev_end, prev_self, IsInsertion, IsRemoval, IsSplice, IsChain_inserted, IsChain_pushed, IsChain_not_pushed, IsChain_removed, IsChain_joined, IsChain_not_spliced, IsChain_kept}
+use Rattle.vg_list.proofs.Chains.{same_node, node_sentinel, node_unlinked, sentinel_unlinked, same_sentinel, next-prev, prev-next, next-prev_end, prev-next_first, prev_self, IsInsertion, IsRemoval, IsSplice, IsChain_inserted, IsChain_pushed, IsChain_not_pushed, IsChain_removed, IsChain_joined, IsChain_not_spliced, IsChain_kept}
 use Rattle.vg_list.proofs.Places.{Has, Has-inserted_before, Has-inserted_before_node, Has-without, Has-append_left, Has-append_right, get_or-map_lists}
 use Rattle.vg_list.proofs.Representation.{leads_or_not, lists_of-Represents, ring_at, list_in_range, leads_from_at, IsDisjoint_from_sound}
 
@@ -210,4 +210,127 @@ module _ (a b c : Arena) (all : NodeLists) (sound : Represents a all) (counts_b 
           ] in
           let has : Has (f (nodes_of all was_linked.0)) n = Has-without node (nodes_of all was_linked.0) n other (was_linked.1, was_linked.2) in
           (was_linked.0, has.0, rw (get_or-map_lists f refl all.lists was_linked.0) has.1);
+      }
+
+-- the target's ring, with the source's nodes behind its own
+IsChain_spliced : (a d : Arena) (source target first : ℕ) (last end : Link) → IsSplice (next_link a) (prev_link a) (next_link d) (prev_link d) source target first last end → (xs ys : List ℕ) → IsChain (next_link a) (prev_link a) (Sentinel source) ys (Sentinel source) → IsChain (next_link a) (prev_link a) (Sentinel target) xs (Sentinel target) → IsChain (next_link d) (prev_link d) (Sentinel target) (xs ++ ys) (Sentinel target)
+IsChain_spliced a d source target first last end change xs [] from_ring to_ring = absurd (node_sentinel first source (sym change.source_first ∙ from_ring.0))
+IsChain_spliced a d source target first last end change xs (y ∷ ys) from_ring to_ring =
+    let same : first ≡ y = same_node first y (sym change.source_first ∙ from_ring.0) in
+    rw (← same) (
+      IsChain_joined
+        (next_link a)
+        (prev_link a)
+        (next_link d)
+        (prev_link d)
+        source
+        target
+        first
+        last
+        end
+        change
+        (Sentinel target)
+        xs
+        ys
+        (λ is. change.differ (sym (same_sentinel target source is)))
+        to_ring
+        (rw same from_ring.2)
+    )
+
+-- Three joins that put one list's nodes behind another's.
+module _ (a b c d : Arena) (all : NodeLists) (sound : Represents a all) (counts_b : SameCounts a b) (counts_c : SameCounts b c) (counts_d : SameCounts c d) where
+  pub Represents_spliced : (source target first : ℕ) → source < length all.lists → target < length all.lists → source ≢ target → next_link a (Sentinel source) ≡ Node first → Joins a b (prev_link a (Sentinel target)) (Node first) → Joins b c (prev_link a (Sentinel source)) (Sentinel target) → Joins c d (Sentinel source) (Sentinel source) → Represents d (with_list (with_list all target (nodes_of all target ++ nodes_of all source)) source [])
+  Represents_spliced source target first source_in target_in differ leads one two three =
+      let last = prev_link a (Sentinel source) in
+      let end = prev_link a (Sentinel target) in
+      let xs = nodes_of all target in
+      let source_last : next_link a last ≡ Sentinel source = next-prev_end (next_link a) (prev_link a) (Sentinel source) (nodes_of all source) source (sound.rings source source_in) in
+      let target_end : next_link a end ≡ Sentinel target = next-prev_end (next_link a) (prev_link a) (Sentinel target) xs target (sound.rings target target_in) in
+      let end_apart : end ≢ Sentinel source = λ same. node_sentinel first target (sym leads ∙ ap (next_link a) (sym same) ∙ target_end) in
+      let last_apart : last ≢ Sentinel source = λ same. node_sentinel first source (sym leads ∙ ap (next_link a) (sym same) ∙ source_last) in
+      let ends_apart : end ≢ last = λ same. differ (same_sentinel source target (sym source_last ∙ ap (next_link a) (sym same) ∙ target_end)) in
+      let first_source : prev_link a (Node first) ≡ Sentinel source =
+        ap (prev_link a) (sym leads) ∙ prev-next_first (next_link a) (prev_link a) (Sentinel source) (nodes_of all source) source (sound.rings source source_in)
+      in
+      let change : IsSplice (next_link a) (prev_link a) (next_link d) (prev_link d) source target first last end = record {
+        differ = differ;
+        source_first = leads;
+        first_source = first_source;
+        source_last = source_last;
+        last_source = refl;
+        target_end = target_end;
+        end_target = refl;
+        from_end = three.next_others end end_apart ∙ two.next_others end ends_apart ∙ one.next_here;
+        back_first = three.prev_others (Node first) (node_sentinel first source) ∙ two.prev_others (Node first) (node_sentinel first target) ∙ one.prev_here;
+        from_last = three.next_others last last_apart ∙ two.next_here;
+        back_target = three.prev_others (Sentinel target) (λ same. differ (sym (same_sentinel target source same))) ∙ two.prev_here;
+        from_source = three.next_here;
+        back_source = three.prev_here;
+        next_others = λ link not_end not_last not_source. three.next_others link not_source ∙ two.next_others link not_last ∙ one.next_others link not_end;
+        prev_others = λ link not_first not_target not_source. three.prev_others link not_source ∙ two.prev_others link not_target ∙ one.prev_others link not_first;
+      } in
+      let ys = nodes_of all source in
+      let joined = set all.lists target (xs ++ ys) in
+      let in_joined : source < length joined = omega (arith, length-set all.lists target (xs ++ ys)) in
+      let at_source = get_or-set_same joined source [] [] in_joined in
+      let at_target : get_or (set joined source []) target [] ≡ xs ++ ys =
+        get_or-set_other joined source target [] [] (λ same. differ (sym same)) ∙ get_or-set_same all.lists target (xs ++ ys) [] target_in
+      in
+      let at_other : (l : ℕ) → l ≢ source → l ≢ target → get_or (set joined source []) l [] ≡ nodes_of all l =
+        λ l not_source not_target. get_or-set_other joined source l [] [] not_source ∙ get_or-set_other all.lists target l (xs ++ ys) [] not_target
+      in
+      record {
+        node_count = omega (arith, sound.node_count, counts_b.nodes, counts_c.nodes, counts_d.nodes);
+        list_count = length-set joined source [] ∙ length-set all.lists target (xs ++ ys) ∙ sound.list_count ∙ sym counts_b.sentinels ∙ sym counts_c.sentinels ∙ sym counts_d.sentinels;
+        rings = λ l below. elim (eqb_tells l source) [
+          | inl (_, same) ↦ rw (same, at_source) (three.next_here, three.prev_here)
+          | inr (_, not_source) ↦ elim (eqb_tells l target) [
+            | inl (_, same) ↦ rw (same, at_target) (
+              IsChain_spliced a d source target first last end change xs ys (sound.rings source source_in) (sound.rings target target_in)
+            )
+            | inr (_, not_target) ↦ rw (at_other l not_source not_target) (
+              IsChain_not_spliced
+                (next_link a)
+                (prev_link a)
+                (next_link d)
+                (prev_link d)
+                source
+                target
+                first
+                last
+                end
+                change
+                (Sentinel l)
+                (nodes_of all l)
+                l
+                not_source
+                not_target
+                (λ same. not_source (same_sentinel l source same))
+                (sound.rings l (omega (arith, length-set joined source [], length-set all.lists target (xs ++ ys))))
+            )
+          ]
+        ];
+        linked = λ n had.
+          let was_linked : IsLinked all n = elim (leads_or_not (next_link a (Node n))) [
+            | inr leads_on ↦ sound.linked n leads_on
+            | inl none ↦ absurd (had (
+              change.next_others
+                (Node n)
+                (λ same. sentinel_unlinked target (sym target_end ∙ ap (next_link a) (sym same) ∙ none))
+                (λ same. sentinel_unlinked source (sym source_last ∙ ap (next_link a) (sym same) ∙ none))
+                (node_sentinel n source)
+              ∙ none
+            ))
+          ] in
+          elim (eqb_tells was_linked.0 source) [
+            | inl (_, same) ↦
+              let has : Has (xs ++ ys) n = Has-append_right xs ys n (was_linked.1, subst (λ (l : ℕ). IsAt all l was_linked.1 n) same was_linked.2) in
+              (target, has.0, rw at_target has.1)
+            | inr (_, not_source) ↦ elim (eqb_tells was_linked.0 target) [
+              | inl (_, same) ↦
+                let has : Has (xs ++ ys) n = Has-append_left xs ys n (was_linked.1, subst (λ (l : ℕ). IsAt all l was_linked.1 n) same was_linked.2) in
+                (target, has.0, rw at_target has.1)
+              | inr (_, not_target) ↦ (was_linked.0, was_linked.1, rw (at_other was_linked.0 not_source not_target) was_linked.2)
+            ]
+          ];
       }
