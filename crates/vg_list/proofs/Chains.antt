@@ -4,14 +4,9 @@ use Rattle.std.specs.Prelude.{slice_get}
 use Rattle.std.proofs.lemmas.Bool.Decides.{eqb_tells}
 use Rattle.vg_list.specs.declared.link.Link.{Link}
 use Rattle.vg_list.specs.declared.link.Link.TheVariants.{Node, Sentinel, Unlinked}
+use Rattle.vg_list.specs.Link.{node_of}
 use Rattle.vg_list.specs.NodeLists.{inserted_before, without}
 use Rattle.vg_list.specs.Arena.{IsChain, nodes_from}
-
--- the node that a link leads to
-abbrev pub node_of : Link → Option ℕ
-node_of (Node node) = Some node
-node_of (Sentinel list) = None
-node_of Unlinked = None
 
 -- two nodes' links are equal where the nodes are
 pub same_node : (m n : ℕ) → Node m ≡ Node n → m ≡ n
@@ -58,6 +53,11 @@ module _ (next prev : Link → Link) where
   pub node_of-first : (from : Link) (xs : List ℕ) (l : ℕ) → IsChain next prev from xs (Sentinel l) → node_of (next from) ≡ slice_get xs 0
   node_of-first from [] l chain = ap node_of chain.0
   node_of-first from (x ∷ xs) l chain = ap node_of chain.0
+
+  -- a chain whose first link leads to no node is empty
+  pub nil_from_first : (from : Link) (xs : List ℕ) (to : Link) → IsChain next prev from xs to → ((x : ℕ) → next from ≡ Node x → ⊥) → xs ≡ []
+  nil_from_first from [] to chain none = refl
+  nil_from_first from (x ∷ xs) to chain none = absurd (none x chain.0)
 
   -- a node of the chain is linked
   pub leads_from_place : (from : Link) (xs : List ℕ) (l place n : ℕ) → IsChain next prev from xs (Sentinel l) → slice_get xs place ≡ Some n → next (Node n) ≢ Unlinked

@@ -237,6 +237,20 @@ IsChain_spliced a d source target first last end change xs (y ∷ ys) from_ring 
         (rw same from_ring.2)
     )
 
+-- nothing changes where an empty list goes behind another
+pub with_list-spliced_nil : (all : NodeLists) (source target : ℕ) → nodes_of all source ≡ [] → with_list (with_list all target (nodes_of all target ++ nodes_of all source)) source [] ≡ all
+with_list-spliced_nil all source target empty =
+    let lists = all.lists in
+    let xs = nodes_of all target in
+    let nothing_behind : xs ++ nodes_of all source ≡ xs = ap (λ (ys : List ℕ). xs ++ ys) empty ∙ append-nil xs in
+    let same : set (set lists target (xs ++ nodes_of all source)) source [] ≡ lists =
+      ap (λ (ys : List ℕ). set (set lists target ys) source []) nothing_behind
+      ∙ ap (λ (zs : List (List ℕ)). set zs source []) (set-get_or lists target [])
+      ∙ ap (λ (ys : List ℕ). set lists source ys) (sym empty)
+      ∙ set-get_or lists source []
+    in
+    ap (λ (zs : List (List ℕ)). let r : NodeLists = record all { lists = zs } in r) same
+
 -- Three joins that put one list's nodes behind another's.
 module _ (a b c d : Arena) (all : NodeLists) (sound : Represents a all) (counts_b : SameCounts a b) (counts_c : SameCounts b c) (counts_d : SameCounts c d) where
   pub Represents_spliced : (source target first : ℕ) → source < length all.lists → target < length all.lists → source ≢ target → next_link a (Sentinel source) ≡ Node first → Joins a b (prev_link a (Sentinel target)) (Node first) → Joins b c (prev_link a (Sentinel source)) (Sentinel target) → Joins c d (Sentinel source) (Sentinel source) → Represents d (with_list (with_list all target (nodes_of all target ++ nodes_of all source)) source [])

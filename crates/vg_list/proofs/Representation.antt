@@ -8,9 +8,10 @@ use Rattle.std.proofs.lemmas.List.FromFn.{length-map-range_with_len, get_or-map-
 use Rattle.vg_list.specs.declared.link.Link.{Link}
 use Rattle.vg_list.specs.declared.link.Link.TheVariants.{Node, Sentinel, Unlinked}
 use Rattle.vg_list.specs.declared.arena.Arena.{Arena}
+use Rattle.vg_list.specs.Link.{node_of}
 use Rattle.vg_list.specs.NodeLists.{NodeLists, nodes_of, IsAt, IsLinked, IsDisjoint}
-use Rattle.vg_list.specs.Arena.{next_link, prev_link, no_links, IsInRange, IsChain, nodes_from, lists_of, Represents}
-use Rattle.vg_list.proofs.Chains.{nodes_from-IsChain, leads_from_place, one_place, node_of, node_of-next, node_of-first}
+use Rattle.vg_list.specs.Arena.{next_link, prev_link, no_links, IsInRange, IsChain, nodes_from, lists_of, Represents, IsSound, SameCounts}
+use Rattle.vg_list.proofs.Chains.{nodes_from-IsChain, leads_from_place, node_unlinked, sentinel_unlinked, one_place, node_of-next, node_of-first, nil_from_first, next-prev, prev-next, next-prev_end, prev-next_first}
 use Rattle.vg_list.proofs.Places.{length-le_from_places}
 
 -- whether a link leads nowhere
@@ -30,6 +31,28 @@ in_range_from_next a (Sentinel list) leads = elim (cases_lt list (length a.senti
   | inr past ↦ absurd (leads (ap (λ links. links.next) (get_or_past a.sentinels.items list no_links past)))
 ]
 in_range_from_next a Unlinked leads = absurd (leads refl)
+
+-- and so does a link back
+pub in_range_from_prev : (a : Arena) (link : Link) → prev_link a link ≢ Unlinked → IsInRange a link
+in_range_from_prev a (Node node) leads = elim (cases_lt node (length a.nodes.items)) [
+  | inl below ↦ below
+  | inr past ↦ absurd (leads (ap (λ links. links.prev) (get_or_past a.nodes.items node no_links past)))
+]
+in_range_from_prev a (Sentinel list) leads = elim (cases_lt list (length a.sentinels.items)) [
+  | inl below ↦ below
+  | inr past ↦ absurd (leads (ap (λ links. links.prev) (get_or_past a.sentinels.items list no_links past)))
+]
+in_range_from_prev a Unlinked leads = absurd (leads refl)
+
+-- what is there stays while the counts do
+pub IsInRange_kept : (a b : Arena) (link : Link) → SameCounts a b → IsInRange a link → IsInRange b link
+IsInRange_kept a b (Node node) counts there = omega (arith, counts.nodes)
+IsInRange_kept a b (Sentinel list) counts there = omega (arith, counts.sentinels)
+IsInRange_kept a b Unlinked counts there = absurd there
+
+-- sound links represent the value that is seen of them
+pub Represents_from_IsSound : (a : Arena) (all : NodeLists) → IsSound a → lists_of a ≡ all → Represents a all
+Represents_from_IsSound a all sound is = subst (λ (v : NodeLists). Represents a v) is sound
 
 nothing_in_none : (node : ℕ) → None ≡ Some node → ⊥
 nothing_in_none node same = cc
@@ -113,6 +136,26 @@ module _ (a : Arena) (all : NodeLists) (sound : Represents a all) where
   pub node_of-first_link : (list : ℕ) → list < length all.lists → node_of (next_link a (Sentinel list)) ≡ slice_get (nodes_of all list) 0
   node_of-first_link list below = node_of-first (next_link a) (prev_link a) (Sentinel list) (nodes_of all list) list (sound.rings list below)
 
+  pub nodes_of-from_first : (list : ℕ) → list < length all.lists → ((x : ℕ) → next_link a (Sentinel list) ≡ Node x → ⊥) → nodes_of all list ≡ []
+  nodes_of-from_first list below none = nil_from_first (next_link a) (prev_link a) (Sentinel list) (nodes_of all list) (Sentinel list) (sound.rings list below) none
+
   pub node_of-next_link : (list place node : ℕ) → IsAt all list place node → node_of (next_link a (Node node)) ≡ slice_get (nodes_of all list) (suc place)
   node_of-next_link list place node at =
       node_of-next (next_link a) (prev_link a) (Sentinel list) (nodes_of all list) list place node (ring_at list place node at) at
+
+  -- the neighbours of a linked node and of a sentinel are there
+  pub prev_in_range : (list place node : ℕ) → IsAt all list place node → IsInRange a (prev_link a (Node node))
+  prev_in_range list place node at =
+      in_range_from_next a (prev_link a (Node node)) (λ none. node_unlinked node (sym (next-prev (next_link a) (prev_link a) (Sentinel list) (nodes_of all list) list place node (ring_at list place node at) at) ∙ none))
+
+  pub next_in_range : (list place node : ℕ) → IsAt all list place node → IsInRange a (next_link a (Node node))
+  next_in_range list place node at =
+      in_range_from_prev a (next_link a (Node node)) (λ none. node_unlinked node (sym (prev-next (next_link a) (prev_link a) (Sentinel list) (nodes_of all list) list place node (ring_at list place node at) at) ∙ none))
+
+  pub last_in_range : (list : ℕ) → list < length all.lists → IsInRange a (prev_link a (Sentinel list))
+  last_in_range list below =
+      in_range_from_next a (prev_link a (Sentinel list)) (λ none. sentinel_unlinked list (sym (next-prev_end (next_link a) (prev_link a) (Sentinel list) (nodes_of all list) list (sound.rings list below)) ∙ none))
+
+  pub first_in_range : (list : ℕ) → list < length all.lists → IsInRange a (next_link a (Sentinel list))
+  first_in_range list below =
+      in_range_from_prev a (next_link a (Sentinel list)) (λ none. sentinel_unlinked list (sym (prev-next_first (next_link a) (prev_link a) (Sentinel list) (nodes_of all list) list (sound.rings list below)) ∙ none))

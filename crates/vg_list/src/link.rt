@@ -1,3 +1,5 @@
+ghost use Rattle.std.specs.Prelude.{◌≡◌, ◌≢◌, ◌↔◌, IsTrue};
+
 /// Where a link leads.
 #[derive(Clone, Copy)]
 pub enum Link {
@@ -8,4 +10,28 @@ pub enum Link {
     Sentinel(u32),
     /// Nowhere: the node is in no list.
     Unlinked,
+}
+
+impl Link {
+    ghost use Rattle.vg_list.specs.Link.{node_of};
+
+    /// The node that the link leads to.
+    pub fn node(self) -> Option<u32>
+        ensures { result ≡ node_of self }
+    {
+        match self {
+            Link::Node(node) => Some(node),
+            Link::Sentinel(_) | Link::Unlinked => None,
+        }
+    }
+
+    /// Whether the link leads to a node or a sentinel.
+    pub fn leads(self) -> bool
+        ensures { IsTrue result ↔ (self ≢ Link.Unlinked) }
+    {
+        match self {
+            Link::Node(_) | Link::Sentinel(_) => true,
+            Link::Unlinked => false,
+        }
+    }
 }

@@ -86,10 +86,7 @@ impl Lists {
         ensures node { result ≡ slice_get (nodes_of self.now list) 0 }
         ensures disjoint { IsDisjoint self.now }
     {
-        match self.arena.next(Link::Sentinel(list)) {
-            Link::Node(node) => Some(node),
-            _ => None,
-        }
+        self.arena.next(Link::Sentinel(list)).node()
     }
 
     /// The node behind this one in its list, or None where this one is the last.
@@ -99,10 +96,7 @@ impl Lists {
             → result ≡ slice_get (nodes_of self.now list) (place + 1) }
         ensures disjoint { IsDisjoint self.now }
     {
-        match self.arena.next(Link::Node(node)) {
-            Link::Node(next) => Some(next),
-            _ => None,
-        }
+        self.arena.next(Link::Node(node)).node()
     }
 
     /// Whether the node is in a list.
@@ -110,6 +104,6 @@ impl Lists {
         requires { node < self.now.nodes }
         ensures { IsTrue result ↔ IsLinked self.now node }
     {
-        !matches!(self.arena.next(Link::Node(node)), Link::Unlinked)
+        self.arena.next(Link::Node(node)).leads()
     }
 }
