@@ -1,5 +1,5 @@
 -- The links of an arena, and the lists that they make.
-use Rattle.std.specs.Prelude.{◌≡◌, ◌≢◌, ℕ, zero, suc, ◌<◌, List, [], ◌∷◌, length, map, slice_index_or}
+use Rattle.std.specs.Prelude.{◌≡◌, ◌≢◌, ℕ, zero, suc, ◌<◌, List, [], ◌∷◌, ◌++◌, length, map, replicate, slice_index_or}
 use Rattle.std.specs.List.{range_with_len}
 use Rattle.vg_list.specs.declared.link.Link.{Link}
 use Rattle.vg_list.specs.declared.link.Link.TheVariants.{Node, Sentinel, Unlinked}
@@ -58,6 +58,20 @@ pub record Clears (old new : Arena) (node : ℕ) : Type 0 where
 pub record SameCounts (old new : Arena) : Type 0 where
   pub nodes : length new.nodes.items ≡ length old.nodes.items
   pub sentinels : length new.sentinels.items ≡ length old.sentinels.items
+
+-- the links of the sentinel of an empty list
+abbrev pub empty_ring : ℕ → Links
+empty_ring list = record { prev = Sentinel list; next = Sentinel list }
+
+-- this many nodes without links and this many empty lists come behind those that were there
+pub record Grows (old new : Arena) (more_nodes more_lists : ℕ) : Type 0 where
+  pub nodes : new.nodes.items ≡ old.nodes.items ++ replicate more_nodes no_links
+  pub sentinels : new.sentinels.items ≡ old.sentinels.items ++ map empty_ring (range_with_len (length old.sentinels.items) more_lists)
+
+-- all links are as before
+pub record SameLinks (old new : Arena) : Type 0 where
+  pub nodes : new.nodes.items ≡ old.nodes.items
+  pub sentinels : new.sentinels.items ≡ old.sentinels.items
 
 -- the nodes from this link on, at most `count` of them
 abbrev pub nodes_from : ℕ → (Link → Link) → Link → List ℕ

@@ -1,5 +1,8 @@
-ghost use Rattle.std.specs.Prelude.{◌≡◌, ◌<◌, length};
-ghost use Rattle.vg_list.specs.Arena.{next_link, prev_link, IsInRange, SetsNext, SetsPrev, Joins, Clears, SameCounts};
+ghost use Rattle.std.specs.Prelude.{◌≡◌, ◌+◌, ◌^◌, ◌<◌, ◌≤◌, [], ◌++◌, length, map, replicate, vec_len, vec_capacity, OnOk, OnErr};
+ghost use Rattle.std.specs.List.{range_with_len};
+ghost use Rattle.vg_list.specs.Arena.{next_link, prev_link, no_links, empty_ring, IsInRange, SetsNext, SetsPrev, Joins, Clears, SameCounts, Grows, SameLinks};
+
+use std::alloc::{AllocError, Global};
 
 use crate::link::Link;
 use crate::links::Links;
@@ -12,6 +15,30 @@ pub struct Arena {
 }
 
 impl Arena {
+    /// No nodes and no lists. It takes no memory.
+    pub fn new(alloc: Global) -> Arena
+        ensures nodes { result.nodes.items ≡ [] }
+        ensures sentinels { result.sentinels.items ≡ [] }
+    {
+        Arena {
+            nodes: Vec::new(alloc),
+            sentinels: Vec::new(alloc),
+        }
+    }
+
+    /// Adds so many nodes without links and so many empty lists.
+    pub fn grow(&mut self, nodes: u32, lists: u32) -> Result<(), AllocError>
+        requires { length self.old.sentinels.items + lists < 2 ^ 32 }
+        ensures ok { OnOk result (Grows self.old self.new nodes lists) }
+        ensures err { OnErr result (SameLinks self.old self.new) }
+    {
+        self.nodes.reserve(nodes as usize)?;
+        self.sentinels.reserve(lists as usize)?;
+        push_unlinked(&mut self.nodes, nodes);
+        push_empty(&mut self.sentinels, lists);
+        Ok(())
+    }
+
     /// Where the link to what follows leads.
     pub fn next(&self, at: Link) -> Link
         requires { IsInRange self.now at }
@@ -81,5 +108,36 @@ impl Arena {
             prev: Link::Unlinked,
             next: Link::Unlinked,
         };
+    }
+}
+
+/// Adds so many nodes without links, for which there is room.
+fn push_unlinked(nodes: &mut Vec<Links>, count: u32)
+    requires { vec_len nodes.old + count ≤ vec_capacity nodes.old }
+    ensures { nodes.new.items ≡ nodes.old.items ++ replicate count no_links }
+{
+    for _added in 0..count {
+        let unlinked = Links {
+            prev: Link::Unlinked,
+            next: Link::Unlinked,
+        };
+        nodes.push(unlinked).unwrap();
+    }
+}
+
+/// Adds the sentinels of so many empty lists, for which there is room.
+fn push_empty(sentinels: &mut Vec<Links>, count: u32)
+    requires room { vec_len sentinels.old + count ≤ vec_capacity sentinels.old }
+    requires numbers { length sentinels.old.items + count < 2 ^ 32 }
+    ensures { sentinels.new.items
+        ≡ sentinels.old.items ++ map empty_ring (range_with_len (length sentinels.old.items) count) }
+{
+    for _added in 0..count {
+        let sentinel = Link::Sentinel(sentinels.len() as u32);
+        let ring = Links {
+            prev: sentinel,
+            next: sentinel,
+        };
+        sentinels.push(ring).unwrap();
     }
 }
