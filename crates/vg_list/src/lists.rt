@@ -1,6 +1,7 @@
-ghost use Rattle.std.specs.Prelude.{◌≡◌, ◌≢◌, ℕ, ◌+◌, ◌<◌, ◌↔◌, [], ◌∷◌, ◌++◌, length, map, slice_get, slice_set, IsTrue};
+ghost use Rattle.std.specs.Prelude.{◌≡◌, ◌≢◌, ℕ, ◌+◌, ◌^◌, ◌<◌, ◌↔◌, [], ◌∷◌, ◌++◌, length, map, replicate, slice_get, slice_set, IsTrue, IfOk, OnOk, OnErr};
 ghost use Rattle.vg_list.specs.NodeLists.{nodes_of, IsAt, IsLinked, IsDisjoint, inserted_before, without};
 
+use std::alloc::{AllocError, Global};
 use std::marker::Model;
 
 use crate::arena::Arena;
@@ -24,6 +25,28 @@ impl Model for Lists {
 }
 
 impl Lists {
+    /// So many nodes in no list, and so many empty lists.
+    pub fn new(alloc: Global, nodes: u32, lists: u32) -> Result<Lists, AllocError>
+        ensures { IfOk result (λ made. made ≡ record { nodes = nodes; lists = replicate lists [] }) }
+    {
+        let mut arena = Arena::new(alloc);
+        arena.grow(nodes, lists)?;
+        Ok(Lists { arena })
+    }
+
+    /// Adds so many nodes in no list, and so many empty lists. Without the memory for both it
+    /// changes nothing.
+    pub fn grow(&mut self, nodes: u32, lists: u32) -> Result<(), AllocError>
+        requires nodes { self.old.nodes + nodes < 2 ^ 32 }
+        requires lists { length self.old.lists + lists < 2 ^ 32 }
+        ensures ok { OnOk result (self.new ≡ record {
+            nodes = self.old.nodes + nodes;
+            lists = self.old.lists ++ replicate lists [] }) }
+        ensures err { OnErr result (self.new ≡ self.old) }
+    {
+        self.arena.grow(nodes, lists)
+    }
+
     /// Puts the node at the end of the list.
     pub fn push_back(&mut self, list: u32, node: u32)
         requires list { list < length self.old.lists }
