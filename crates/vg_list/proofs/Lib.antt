@@ -3,3 +3,4 @@ pub mod Places
 pub mod Representation
 pub mod Changes
 pub mod Growth
+pub mod Walks

@@ -130,3 +130,6 @@ impl Lists {
         self.arena.next(Link::Node(node)).leads()
     }
 }
+
+#[cfg(test)]
+mod tests;
