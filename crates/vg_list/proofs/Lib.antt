@@ -4,3 +4,4 @@ pub mod Representation
 pub mod Changes
 pub mod Growth
 pub mod Walks
+pub mod Edits

@@ -1,4 +1,4 @@
-ghost use Rattle.std.specs.Prelude.{◌≡◌, ◌≢◌, ℕ, ◌+◌, ◌^◌, ◌<◌, ◌↔◌, [], ◌∷◌, ◌++◌, length, map, replicate, slice_get, slice_set, IsTrue, IfOk, OnOk, OnErr};
+ghost use Rattle.std.specs.Prelude.{◌≡◌, ◌≢◌, ℕ, ◌+◌, ◌^◌, ◌<◌, ◌↔◌, [], ◌∷◌, ◌++◌, insert, length, map, remove, replicate, slice_get, slice_set, IsTrue, IfOk, OnOk, OnErr};
 ghost use Rattle.vg_list.specs.NodeLists.{nodes_of, IsAt, IsLinked, IsDisjoint, inserted_before, without};
 
 use std::alloc::{AllocError, Global};
@@ -65,8 +65,12 @@ impl Lists {
         requires at { IsLinked self.old at }
         requires node { node < self.old.nodes }
         requires free { ¬ IsLinked self.old node }
-        ensures { self.new ≡ record self.old {
+        ensures value { self.new ≡ record self.old {
             lists = map (inserted_before at node) self.old.lists } }
+
+        // The same by the place of `at`: the node goes there, and all other lists stay.
+        ensures place { (list place : ℕ) → IsAt self.old list place at → self.new.lists
+            ≡ slice_set self.old.lists list (insert (nodes_of self.old list) place node) }
     {
         let before = self.arena.prev(Link::Node(at));
         self.arena.join(before, Link::Node(node));
@@ -76,7 +80,12 @@ impl Lists {
     /// Takes the node out of its list.
     pub fn unlink(&mut self, node: u32)
         requires { IsLinked self.old node }
-        ensures { self.new ≡ record self.old { lists = map (without node) self.old.lists } }
+        ensures value { self.new ≡ record self.old {
+            lists = map (without node) self.old.lists } }
+
+        // The same by the node's place: it goes from there, and all other lists stay.
+        ensures place { (list place : ℕ) → IsAt self.old list place node → self.new.lists
+            ≡ slice_set self.old.lists list (remove (nodes_of self.old list) place) }
     {
         let before = self.arena.prev(Link::Node(node));
         let after = self.arena.next(Link::Node(node));

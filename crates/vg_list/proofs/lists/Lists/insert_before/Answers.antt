@@ -1,6 +1,8 @@
-use Rattle.vg_list.specs.NodeLists.{inserted_before}
-use Rattle.vg_list.specs.Arena.{Represents}
-use Rattle.vg_list.proofs.Representation.{Represents_from_IsSound, lists_of-Represents, node_in_range, prev_in_range}
+use Rattle.std.proofs.Common.{◌≡◌, ap, ◌∙◌}
+use Rattle.vg_list.specs.NodeLists.{NodeLists, inserted_before}
+use Rattle.vg_list.specs.Arena.{Represents, lists_of}
+use Rattle.vg_list.proofs.Edits.{map-inserted_before}
+use Rattle.vg_list.proofs.Representation.{Represents_from_IsSound, IsDisjoint_from_sound, lists_of-Represents, node_in_range, prev_in_range}
 use Rattle.vg_list.proofs.Changes.{changed, Represents_inserted, IsSound_from_Represents}
 use Rattle.vg_list.proofs.lists.Lists.insert_before.Goals as goal
 use Rattle.vg_list.proofs.lists.Lists.insert_before.Goals.{After-join-2}
@@ -37,5 +39,14 @@ inserted c =
 pub invariant_of-self : goal.invariant_of-self
 invariant_of-self c = IsSound_from_Represents c.join-2.new.self _ (inserted c)
 
-pub returns : goal.returns
-returns c = lists_of-Represents c.join-2.new.self _ (inserted c)
+value : (c : After-join-2) → lists_of c.join-2.new.self ≡ changed (inserted_before c.args.at c.args.node) c.args.self.now
+value c = lists_of-Represents c.join-2.new.self _ (inserted c)
+
+pub returns-clause-value : goal.returns-clause-value
+returns-clause-value c = value c
+
+pub returns-clause-place : goal.returns-clause-place
+returns-clause-place c = λ list place at.
+    let sound = Represents_from_IsSound c.self.inside.arena c.args.self.now c.self.invariant c.self.view_is in
+    let disjoint = IsDisjoint_from_sound c.self.inside.arena c.args.self.now sound in
+    ap (λ (all : NodeLists). all.lists) (value c) ∙ map-inserted_before c.args.self.now disjoint list place c.args.at c.args.node at

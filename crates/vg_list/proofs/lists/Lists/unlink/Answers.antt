@@ -1,7 +1,8 @@
-use Rattle.std.proofs.Common.{arith}
-use Rattle.vg_list.specs.NodeLists.{without}
-use Rattle.vg_list.specs.Arena.{Represents}
-use Rattle.vg_list.proofs.Representation.{Represents_from_IsSound, lists_of-Represents, node_in_range, prev_in_range, next_in_range}
+use Rattle.std.proofs.Common.{◌≡◌, ap, ◌∙◌, arith}
+use Rattle.vg_list.specs.NodeLists.{NodeLists, without}
+use Rattle.vg_list.specs.Arena.{Represents, lists_of}
+use Rattle.vg_list.proofs.Edits.{map-without}
+use Rattle.vg_list.proofs.Representation.{Represents_from_IsSound, IsDisjoint_from_sound, lists_of-Represents, node_in_range, prev_in_range, next_in_range}
 use Rattle.vg_list.proofs.Changes.{changed, Represents_removed, IsSound_from_Represents}
 use Rattle.vg_list.proofs.lists.Lists.unlink.Goals as goal
 use Rattle.vg_list.proofs.lists.Lists.unlink.Goals.{After-clear}
@@ -53,5 +54,14 @@ removed c =
 pub invariant_of-self : goal.invariant_of-self
 invariant_of-self c = IsSound_from_Represents c.clear.new.self _ (removed c)
 
-pub returns : goal.returns
-returns c = lists_of-Represents c.clear.new.self _ (removed c)
+value : (c : After-clear) → lists_of c.clear.new.self ≡ changed (without c.args.node) c.args.self.now
+value c = lists_of-Represents c.clear.new.self _ (removed c)
+
+pub returns-clause-value : goal.returns-clause-value
+returns-clause-value c = value c
+
+pub returns-clause-place : goal.returns-clause-place
+returns-clause-place c = λ list place at.
+    let sound = Represents_from_IsSound c.self.inside.arena c.args.self.now c.self.invariant c.self.view_is in
+    let disjoint = IsDisjoint_from_sound c.self.inside.arena c.args.self.now sound in
+    ap (λ (all : NodeLists). all.lists) (value c) ∙ map-without c.args.self.now disjoint list place c.args.node at
