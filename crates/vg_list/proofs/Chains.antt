@@ -197,12 +197,12 @@ module _ (next prev next' prev' : Link → Link) where
         let rest = IsChain_inserted before at change (Node x) xs l fresh back chain.2 in
         elim (eqb_tells x at) [
           | inl (is, same) ↦
-            let from_is : from ≡ before = sym chain.1 ∙ ap (λ (m : ℕ). prev (Node m)) same ∙ back in
-            rw is (
-              ap next' from_is ∙ change.from_before,
-              change.back_before ∙ sym from_is,
-              (change.to_after ∙ ap (λ (m : ℕ). Node m) (sym same), ap (λ (m : ℕ). prev' (Node m)) same ∙ change.back_after, rest),
-            )
+              let from_is : from ≡ before = sym chain.1 ∙ ap (λ (m : ℕ). prev (Node m)) same ∙ back in
+              rw is (
+                ap next' from_is ∙ change.from_before,
+                change.back_before ∙ sym from_is,
+                (change.to_after ∙ ap (λ (m : ℕ). Node m) (sym same), ap (λ (m : ℕ). prev' (Node m)) same ∙ change.back_after, rest),
+              )
           | inr (isnt, differ) ↦ rw isnt (
             change.next_others from (λ same. differ (same_node x at (sym chain.0 ∙ ap next same ∙ change.was_before))) other ∙ chain.0,
             change.prev_others (Node x) fresh (λ same. differ (same_node x at same)) ∙ chain.1,
@@ -216,8 +216,7 @@ module _ (next prev next' prev' : Link → Link) where
         let from_is : from ≡ before = sym chain.1 ∙ back in
         (ap next' from_is ∙ change.from_before, change.back_before ∙ sym from_is, (change.to_after, change.back_after))
     IsChain_pushed before l change from (x ∷ xs) other back chain =
-        let fresh : Node x ≢ Node node = not_free x xs l change.was_free chain.2 in
-        (
+        let fresh : Node x ≢ Node node = not_free x xs l change.was_free chain.2 in (
           change.next_others from (λ same. node_sentinel x l (sym chain.0 ∙ ap next same ∙ change.was_before)) other ∙ chain.0,
           change.prev_others (Node x) fresh (node_sentinel x l) ∙ chain.1,
           IsChain_pushed before l change (Node x) xs fresh back chain.2,
@@ -230,8 +229,7 @@ module _ (next prev next' prev' : Link → Link) where
       change.prev_others (Sentinel k) (λ same. node_sentinel node k (sym same)) (λ same. differ (same_sentinel k l same)) ∙ chain.1,
     )
     IsChain_not_pushed before l change from (x ∷ xs) k differ other chain =
-        let fresh : Node x ≢ Node node = not_free x xs k change.was_free chain.2 in
-        (
+        let fresh : Node x ≢ Node node = not_free x xs k change.was_free chain.2 in (
           change.next_others from (λ same. node_sentinel x l (sym chain.0 ∙ ap next same ∙ change.was_before)) other ∙ chain.0,
           change.prev_others (Node x) fresh (node_sentinel x l) ∙ chain.1,
           IsChain_not_pushed before l change (Node x) xs k differ fresh chain.2,
@@ -250,17 +248,16 @@ module _ (next prev next' prev' : Link → Link) where
       ),
     )
     IsChain_removed_at change (x ∷ xs) =
-        let rest = IsChain_removed_at change xs in
-        (
+        let rest = IsChain_removed_at change xs in (
           λ from l other chain. elim (eqb_tells x node) [
             | inl (is, same) ↦ rw is (
-              rest.1
+                rest.1
                 from
                 l
                 (sym chain.1 ∙ ap (λ (m : ℕ). prev (Node m)) same)
                 other
                 (subst (λ (m : ℕ). IsChain next prev (Node m) xs (Sentinel l)) same chain.2)
-            )
+                )
             | inr (isnt, differ) ↦ rw isnt (
               change.next_others from (λ same. differ (same_node x node (sym chain.0 ∙ ap next same ∙ change.was_before))) other ∙ chain.0,
               change.prev_others (Node x) (λ same. other (sym chain.1 ∙ ap prev same ∙ change.was_after)) (λ same. differ (same_node x node same)) ∙ chain.1,
@@ -285,11 +282,11 @@ module _ (next prev next' prev' : Link → Link) where
     node_kept : (from : Link) (x : ℕ) → from ≢ Sentinel source → next from ≡ Node x → prev (Node x) ≡ from → (next' from ≡ Node x) × (prev' (Node x) ≡ from)
     node_kept from x other forth back = (
       change.next_others
-        from
-        (λ same. node_sentinel x target (sym forth ∙ ap next same ∙ change.target_end))
-        (λ same. node_sentinel x source (sym forth ∙ ap next same ∙ change.source_last))
-        other
-        ∙ forth,
+          from
+          (λ same. node_sentinel x target (sym forth ∙ ap next same ∙ change.target_end))
+          (λ same. node_sentinel x source (sym forth ∙ ap next same ∙ change.source_last))
+          other
+          ∙ forth,
       change.prev_others (Node x) (λ same. other (sym back ∙ ap prev same ∙ change.first_source)) (node_sentinel x target) (node_sentinel x source) ∙ back,
     )
 
@@ -315,17 +312,17 @@ module _ (next prev next' prev' : Link → Link) where
     pub IsChain_not_spliced : (from : Link) (xs : List ℕ) (k : ℕ) → k ≢ source → k ≢ target → from ≢ Sentinel source → IsChain next prev from xs (Sentinel k) → IsChain next' prev' from xs (Sentinel k)
     IsChain_not_spliced from [] k not_source not_target other chain = (
       change.next_others
-        from
-        (λ same. not_target (same_sentinel k target (sym chain.0 ∙ ap next same ∙ change.target_end)))
-        (λ same. not_source (same_sentinel k source (sym chain.0 ∙ ap next same ∙ change.source_last)))
-        other
-        ∙ chain.0,
+          from
+          (λ same. not_target (same_sentinel k target (sym chain.0 ∙ ap next same ∙ change.target_end)))
+          (λ same. not_source (same_sentinel k source (sym chain.0 ∙ ap next same ∙ change.source_last)))
+          other
+          ∙ chain.0,
       change.prev_others
-        (Sentinel k)
-        (λ same. node_sentinel first k (sym same))
-        (λ same. not_target (same_sentinel k target same))
-        (λ same. not_source (same_sentinel k source same))
-        ∙ chain.1,
+          (Sentinel k)
+          (λ same. node_sentinel first k (sym same))
+          (λ same. not_target (same_sentinel k target same))
+          (λ same. not_source (same_sentinel k source same))
+          ∙ chain.1,
     )
     IsChain_not_spliced from (x ∷ xs) k not_source not_target other chain =
         let kept = node_kept from x other chain.0 chain.1 in

@@ -58,12 +58,12 @@ module _ (a b c : Arena) (all : NodeLists) (sound : Represents a all) (counts_b 
   linked_before before after node leads change n other linked = elim (leads_or_not (next_link a (Node n))) [
     | inr had ↦ sound.linked n had
     | inl none ↦ absurd (linked (
-      change.next_others
+        change.next_others
         (Node n)
         (λ same. leads (sym change.was_before ∙ ap (next_link a) (sym same) ∙ none))
         (λ same. other (same_node n node same))
-      ∙ none
-    ))
+        ∙ none
+        ))
   ]
 
   pub Represents_inserted : (at node : ℕ) → IsLinked all at → (IsLinked all node → ⊥) → Joins a b (prev_link a (Node at)) (Node node) → Joins b c (Node node) (Node at) → Represents c (changed (inserted_before at node) all)
@@ -73,7 +73,7 @@ module _ (a b c : Arena) (all : NodeLists) (sound : Represents a all) (counts_b 
       let is_at : IsAt all list place at = linked.2 in
       let before = prev_link a (Node at) in
       let was : next_link a before ≡ Node at =
-        next-prev (next_link a) (prev_link a) (Sentinel list) (nodes_of all list) list place at (ring_at a all sound list place at is_at) is_at
+      next-prev (next_link a) (prev_link a) (Sentinel list) (nodes_of all list) list place at (ring_at a all sound list place at is_at) is_at
       in
       let none : next_link a (Node node) ≡ Unlinked = free_links a all node sound free in
       let other : Node at ≢ Node node = λ same. leads_from_at a all sound list place at is_at (ap (next_link a) same ∙ none) in
@@ -83,31 +83,31 @@ module _ (a b c : Arena) (all : NodeLists) (sound : Represents a all) (counts_b 
         node_count = same_nodes;
         list_count = length-map all.lists f ∙ same_lists;
         rings = λ l below.
-          rw (get_or-map_lists f refl all.lists l) (
+            rw (get_or-map_lists f refl all.lists l) (
             IsChain_inserted
-              (next_link a)
-              (prev_link a)
-              (next_link c)
-              (prev_link c)
-              node
-              before
-              at
-              change
-              (Sentinel l)
-              (nodes_of all l)
-              l
-              (λ same. node_sentinel node l (sym same))
-              refl
-              (sound.rings l (omega (arith, length-map all.lists f)))
-          );
+            (next_link a)
+            (prev_link a)
+            (next_link c)
+            (prev_link c)
+            node
+            before
+            at
+            change
+            (Sentinel l)
+            (nodes_of all l)
+            l
+            (λ same. node_sentinel node l (sym same))
+            refl
+            (sound.rings l (omega (arith, length-map all.lists f)))
+            );
         linked = λ n leads. elim (eqb_tells n node) [
           | inl (_, same) ↦
-            let has : Has (f (nodes_of all list)) node = Has-inserted_before_node at node (nodes_of all list) (place, is_at) in
-            (list, has.0, rw (get_or-map_lists f refl all.lists list, same) has.1)
+              let has : Has (f (nodes_of all list)) node = Has-inserted_before_node at node (nodes_of all list) (place, is_at) in
+              (list, has.0, rw (get_or-map_lists f refl all.lists list, same) has.1)
           | inr (_, differ) ↦
-            let was_linked = linked_before before (Node at) node (node_unlinked at) change n differ leads in
-            let has : Has (f (nodes_of all was_linked.0)) n = Has-inserted_before at node (nodes_of all was_linked.0) n (was_linked.1, was_linked.2) in
-            (was_linked.0, has.0, rw (get_or-map_lists f refl all.lists was_linked.0) has.1)
+              let was_linked = linked_before before (Node at) node (node_unlinked at) change n differ leads in
+              let has : Has (f (nodes_of all was_linked.0)) n = Has-inserted_before at node (nodes_of all was_linked.0) n (was_linked.1, was_linked.2) in
+              (was_linked.0, has.0, rw (get_or-map_lists f refl all.lists was_linked.0) has.1)
         ];
       }
 
@@ -124,10 +124,10 @@ module _ (a b c : Arena) (all : NodeLists) (sound : Represents a all) (counts_b 
         list_count = length-set all.lists list (xs ++ node ∷ []) ∙ same_lists;
         rings = λ l below. elim (eqb_tells l list) [
           | inl (_, same) ↦ rw (same, here) (
-            IsChain_pushed (next_link a) (prev_link a) (next_link c) (prev_link c) node before list change (Sentinel list) xs (λ is. node_sentinel node list (sym is)) refl (sound.rings list in_range)
-          )
+              IsChain_pushed (next_link a) (prev_link a) (next_link c) (prev_link c) node before list change (Sentinel list) xs (λ is. node_sentinel node list (sym is)) refl (sound.rings list in_range)
+              )
           | inr (_, differ) ↦ rw (get_or-set_other all.lists list l (xs ++ node ∷ []) [] differ) (
-            IsChain_not_pushed
+              IsChain_not_pushed
               (next_link a)
               (prev_link a)
               (next_link c)
@@ -142,20 +142,20 @@ module _ (a b c : Arena) (all : NodeLists) (sound : Represents a all) (counts_b 
               differ
               (λ is. node_sentinel node l (sym is))
               (sound.rings l (omega (arith, length-set all.lists list (xs ++ node ∷ []))))
-          )
+              )
         ];
         linked = λ n leads. elim (eqb_tells n node) [
           | inl (_, same) ↦
-            let has : Has (xs ++ node ∷ []) node = Has-append_right xs (node ∷ []) node (0, refl) in
-            (list, has.0, rw (here, same) has.1)
+              let has : Has (xs ++ node ∷ []) node = Has-append_right xs (node ∷ []) node (0, refl) in
+              (list, has.0, rw (here, same) has.1)
           | inr (_, differ) ↦
-            let was_linked = linked_before before (Sentinel list) node (sentinel_unlinked list) change n differ leads in
-            elim (eqb_tells was_linked.0 list) [
-              | inl (_, same) ↦
-                let has : Has (xs ++ node ∷ []) n = Has-append_left xs (node ∷ []) n (was_linked.1, subst (λ (l : ℕ). IsAt all l was_linked.1 n) same was_linked.2) in
-                (list, has.0, rw here has.1)
-              | inr (_, other) ↦ (was_linked.0, was_linked.1, rw (get_or-set_other all.lists list was_linked.0 (xs ++ node ∷ []) [] other) was_linked.2)
-            ]
+              let was_linked = linked_before before (Sentinel list) node (sentinel_unlinked list) change n differ leads in
+              elim (eqb_tells was_linked.0 list) [
+                | inl (_, same) ↦
+                    let has : Has (xs ++ node ∷ []) n = Has-append_left xs (node ∷ []) n (was_linked.1, subst (λ (l : ℕ). IsAt all l was_linked.1 n) same was_linked.2) in
+                    (list, has.0, rw here has.1)
+                | inr (_, other) ↦ (was_linked.0, was_linked.1, rw (get_or-set_other all.lists list was_linked.0 (xs ++ node ∷ []) [] other) was_linked.2)
+              ]
         ];
       }
 
@@ -182,34 +182,34 @@ module _ (a b c : Arena) (all : NodeLists) (sound : Represents a all) (counts_b 
         node_count = same_nodes;
         list_count = length-map all.lists f ∙ same_lists;
         rings = λ l below.
-          rw (get_or-map_lists f refl all.lists l) (
+            rw (get_or-map_lists f refl all.lists l) (
             IsChain_removed
-              (next_link a)
-              (prev_link a)
-              (next_link c)
-              (prev_link c)
-              node
-              change
-              (Sentinel l)
-              (nodes_of all l)
-              l
-              (λ same. node_sentinel node l (sym same))
-              (sound.rings l (omega (arith, length-map all.lists f)))
-          );
+            (next_link a)
+            (prev_link a)
+            (next_link c)
+            (prev_link c)
+            node
+            change
+            (Sentinel l)
+            (nodes_of all l)
+            l
+            (λ same. node_sentinel node l (sym same))
+            (sound.rings l (omega (arith, length-map all.lists f)))
+            );
         linked = λ n leads.
-          let other : n ≢ node = λ same. leads (ap (λ (m : ℕ). next_link c (Node m)) same ∙ two.next_here) in
-          let was_linked : IsLinked all n = elim (leads_or_not (next_link a (Node n))) [
-            | inr had ↦ sound.linked n had
-            | inl none ↦ absurd (leads (
-              change.next_others
-                (Node n)
-                (λ same. node_unlinked node (sym was_before ∙ ap (next_link a) (sym same) ∙ none))
-                (λ same. other (same_node n node same))
-              ∙ none
-            ))
-          ] in
-          let has : Has (f (nodes_of all was_linked.0)) n = Has-without node (nodes_of all was_linked.0) n other (was_linked.1, was_linked.2) in
-          (was_linked.0, has.0, rw (get_or-map_lists f refl all.lists was_linked.0) has.1);
+            let other : n ≢ node = λ same. leads (ap (λ (m : ℕ). next_link c (Node m)) same ∙ two.next_here) in
+            let was_linked : IsLinked all n = elim (leads_or_not (next_link a (Node n))) [
+              | inr had ↦ sound.linked n had
+              | inl none ↦ absurd (leads (
+                  change.next_others
+                  (Node n)
+                  (λ same. node_unlinked node (sym was_before ∙ ap (next_link a) (sym same) ∙ none))
+                  (λ same. other (same_node n node same))
+                  ∙ none
+                  ))
+            ] in
+            let has : Has (f (nodes_of all was_linked.0)) n = Has-without node (nodes_of all was_linked.0) n other (was_linked.1, was_linked.2) in
+            (was_linked.0, has.0, rw (get_or-map_lists f refl all.lists was_linked.0) has.1);
       }
 
 -- the target's ring, with the source's nodes behind its own
@@ -218,23 +218,23 @@ IsChain_spliced a d source target first last end change xs [] from_ring to_ring 
 IsChain_spliced a d source target first last end change xs (y ∷ ys) from_ring to_ring =
     let same : first ≡ y = same_node first y (sym change.source_first ∙ from_ring.0) in
     rw (← same) (
-      IsChain_joined
-        (next_link a)
-        (prev_link a)
-        (next_link d)
-        (prev_link d)
-        source
-        target
-        first
-        last
-        end
-        change
-        (Sentinel target)
-        xs
-        ys
-        (λ is. change.differ (sym (same_sentinel target source is)))
-        to_ring
-        (rw same from_ring.2)
+    IsChain_joined
+    (next_link a)
+    (prev_link a)
+    (next_link d)
+    (prev_link d)
+    source
+    target
+    first
+    last
+    end
+    change
+    (Sentinel target)
+    xs
+    ys
+    (λ is. change.differ (sym (same_sentinel target source is)))
+    to_ring
+    (rw same from_ring.2)
     )
 
 -- nothing changes where an empty list goes behind another
@@ -244,10 +244,10 @@ with_list-spliced_nil all source target empty =
     let xs = nodes_of all target in
     let nothing_behind : xs ++ nodes_of all source ≡ xs = ap (λ (ys : List ℕ). xs ++ ys) empty ∙ append-nil xs in
     let same : set (set lists target (xs ++ nodes_of all source)) source [] ≡ lists =
-      ap (λ (ys : List ℕ). set (set lists target ys) source []) nothing_behind
-      ∙ ap (λ (zs : List (List ℕ)). set zs source []) (set-get_or lists target [])
-      ∙ ap (λ (ys : List ℕ). set lists source ys) (sym empty)
-      ∙ set-get_or lists source []
+    ap (λ (ys : List ℕ). set (set lists target ys) source []) nothing_behind
+    ∙ ap (λ (zs : List (List ℕ)). set zs source []) (set-get_or lists target [])
+    ∙ ap (λ (ys : List ℕ). set lists source ys) (sym empty)
+    ∙ set-get_or lists source []
     in
     ap (λ (zs : List (List ℕ)). let r : NodeLists = record all { lists = zs } in r) same
 
@@ -264,7 +264,7 @@ module _ (a b c d : Arena) (all : NodeLists) (sound : Represents a all) (counts_
       let last_apart : last ≢ Sentinel source = λ same. node_sentinel first source (sym leads ∙ ap (next_link a) (sym same) ∙ source_last) in
       let ends_apart : end ≢ last = λ same. differ (same_sentinel source target (sym source_last ∙ ap (next_link a) (sym same) ∙ target_end)) in
       let first_source : prev_link a (Node first) ≡ Sentinel source =
-        ap (prev_link a) (sym leads) ∙ prev-next_first (next_link a) (prev_link a) (Sentinel source) (nodes_of all source) source (sound.rings source source_in)
+      ap (prev_link a) (sym leads) ∙ prev-next_first (next_link a) (prev_link a) (Sentinel source) (nodes_of all source) source (sound.rings source source_in)
       in
       let change : IsSplice (next_link a) (prev_link a) (next_link d) (prev_link d) source target first last end = record {
         differ = differ;
@@ -288,10 +288,10 @@ module _ (a b c d : Arena) (all : NodeLists) (sound : Represents a all) (counts_
       let in_joined : source < length joined = omega (arith, length-set all.lists target (xs ++ ys)) in
       let at_source = get_or-set_same joined source [] [] in_joined in
       let at_target : get_or (set joined source []) target [] ≡ xs ++ ys =
-        get_or-set_other joined source target [] [] (λ same. differ (sym same)) ∙ get_or-set_same all.lists target (xs ++ ys) [] target_in
+      get_or-set_other joined source target [] [] (λ same. differ (sym same)) ∙ get_or-set_same all.lists target (xs ++ ys) [] target_in
       in
       let at_other : (l : ℕ) → l ≢ source → l ≢ target → get_or (set joined source []) l [] ≡ nodes_of all l =
-        λ l not_source not_target. get_or-set_other joined source l [] [] not_source ∙ get_or-set_other all.lists target l (xs ++ ys) [] not_target
+      λ l not_source not_target. get_or-set_other joined source l [] [] not_source ∙ get_or-set_other all.lists target l (xs ++ ys) [] not_target
       in
       record {
         node_count = omega (arith, sound.node_count, counts_b.nodes, counts_c.nodes, counts_d.nodes);
@@ -300,10 +300,10 @@ module _ (a b c d : Arena) (all : NodeLists) (sound : Represents a all) (counts_
           | inl (_, same) ↦ rw (same, at_source) (three.next_here, three.prev_here)
           | inr (_, not_source) ↦ elim (eqb_tells l target) [
             | inl (_, same) ↦ rw (same, at_target) (
-              IsChain_spliced a d source target first last end change xs ys (sound.rings source source_in) (sound.rings target target_in)
-            )
+                IsChain_spliced a d source target first last end change xs ys (sound.rings source source_in) (sound.rings target target_in)
+                )
             | inr (_, not_target) ↦ rw (at_other l not_source not_target) (
-              IsChain_not_spliced
+                IsChain_not_spliced
                 (next_link a)
                 (prev_link a)
                 (next_link d)
@@ -321,30 +321,30 @@ module _ (a b c d : Arena) (all : NodeLists) (sound : Represents a all) (counts_
                 not_target
                 (λ same. not_source (same_sentinel l source same))
                 (sound.rings l (omega (arith, length-set joined source [], length-set all.lists target (xs ++ ys))))
-            )
+                )
           ]
         ];
         linked = λ n had.
-          let was_linked : IsLinked all n = elim (leads_or_not (next_link a (Node n))) [
-            | inr leads_on ↦ sound.linked n leads_on
-            | inl none ↦ absurd (had (
-              change.next_others
-                (Node n)
-                (λ same. sentinel_unlinked target (sym target_end ∙ ap (next_link a) (sym same) ∙ none))
-                (λ same. sentinel_unlinked source (sym source_last ∙ ap (next_link a) (sym same) ∙ none))
-                (node_sentinel n source)
-              ∙ none
-            ))
-          ] in
-          elim (eqb_tells was_linked.0 source) [
-            | inl (_, same) ↦
-              let has : Has (xs ++ ys) n = Has-append_right xs ys n (was_linked.1, subst (λ (l : ℕ). IsAt all l was_linked.1 n) same was_linked.2) in
-              (target, has.0, rw at_target has.1)
-            | inr (_, not_source) ↦ elim (eqb_tells was_linked.0 target) [
+            let was_linked : IsLinked all n = elim (leads_or_not (next_link a (Node n))) [
+              | inr leads_on ↦ sound.linked n leads_on
+              | inl none ↦ absurd (had (
+                  change.next_others
+                  (Node n)
+                  (λ same. sentinel_unlinked target (sym target_end ∙ ap (next_link a) (sym same) ∙ none))
+                  (λ same. sentinel_unlinked source (sym source_last ∙ ap (next_link a) (sym same) ∙ none))
+                  (node_sentinel n source)
+                  ∙ none
+                  ))
+            ] in
+            elim (eqb_tells was_linked.0 source) [
               | inl (_, same) ↦
-                let has : Has (xs ++ ys) n = Has-append_left xs ys n (was_linked.1, subst (λ (l : ℕ). IsAt all l was_linked.1 n) same was_linked.2) in
-                (target, has.0, rw at_target has.1)
-              | inr (_, not_target) ↦ (was_linked.0, was_linked.1, rw (at_other was_linked.0 not_source not_target) was_linked.2)
-            ]
-          ];
+                  let has : Has (xs ++ ys) n = Has-append_right xs ys n (was_linked.1, subst (λ (l : ℕ). IsAt all l was_linked.1 n) same was_linked.2) in
+                  (target, has.0, rw at_target has.1)
+              | inr (_, not_source) ↦ elim (eqb_tells was_linked.0 target) [
+                | inl (_, same) ↦
+                    let has : Has (xs ++ ys) n = Has-append_left xs ys n (was_linked.1, subst (λ (l : ℕ). IsAt all l was_linked.1 n) same was_linked.2) in
+                    (target, has.0, rw at_target has.1)
+                | inr (_, not_target) ↦ (was_linked.0, was_linked.1, rw (at_other was_linked.0 not_source not_target) was_linked.2)
+              ]
+            ];
       }

@@ -36,8 +36,8 @@ inserted_before-place at node (x ∷ xs) zero is one = elim (eqb_tells x at) [
 inserted_before-place at node (x ∷ xs) (suc place) is one = elim (eqb_tells x at) [
   | inl (_, same) ↦ absurd (zero-suc place (sym (one 0 (ap (λ (n : ℕ). Some n) same))))
   | inr (test, _) ↦ rw test (ap (λ (ys : List ℕ). x ∷ ys) (
-    inserted_before-place at node xs place is (λ other same. let step : suc place ≡ suc other = one (suc other) same in omega arith)
-  ))
+      inserted_before-place at node xs place is (λ other same. let step : suc place ≡ suc other = one (suc other) same in omega arith)
+      ))
 ]
 
 -- the node goes from its place
@@ -50,19 +50,19 @@ without-place node (x ∷ xs) zero is one = elim (eqb_tells x node) [
 without-place node (x ∷ xs) (suc place) is one = elim (eqb_tells x node) [
   | inl (_, same) ↦ absurd (zero-suc place (sym (one 0 (ap (λ (n : ℕ). Some n) same))))
   | inr (test, _) ↦ rw test (ap (λ (ys : List ℕ). x ∷ ys) (
-    without-place node xs place is (λ other same. let step : suc place ≡ suc other = one (suc other) same in omega arith)
-  ))
+      without-place node xs place is (λ other same. let step : suc place ≡ suc other = one (suc other) same in omega arith)
+      ))
 ]
 
 -- a change of each list that changes one
 map-one_list : (f : List ℕ → List ℕ) → f [] ≡ [] → (lists : List (List ℕ)) (list : ℕ) (ys : List ℕ) → list < length lists → f (get_or lists list []) ≡ ys → ((other : ℕ) → other ≢ list → f (get_or lists other []) ≡ get_or lists other []) → map f lists ≡ set lists list ys
 map-one_list f empty lists list ys below here others =
     ext_get_or [] (map f lists) (set lists list ys) (length-map lists f ∙ sym (length-set lists list ys)) (λ other _.
-      get_or-map_lists f empty lists other
-      ∙ elim (eqb_tells other list) [
-        | inl (_, same) ↦ rw same (here ∙ sym (get_or-set_same lists list ys [] below))
-        | inr (_, differ) ↦ others other differ ∙ sym (get_or-set_other lists list other ys [] differ)
-      ]
+    get_or-map_lists f empty lists other
+    ∙ elim (eqb_tells other list) [
+      | inl (_, same) ↦ rw same (here ∙ sym (get_or-set_same lists list ys [] below))
+      | inr (_, differ) ↦ others other differ ∙ sym (get_or-set_other lists list other ys [] differ)
+    ]
     )
 
 module _ (all : NodeLists) (disjoint : IsDisjoint all) (list place : ℕ) where
@@ -70,24 +70,24 @@ module _ (all : NodeLists) (disjoint : IsDisjoint all) (list place : ℕ) where
   pub map-inserted_before : (at node : ℕ) → IsAt all list place at → map (inserted_before at node) all.lists ≡ set all.lists list (insert (nodes_of all list) place node)
   map-inserted_before at node is_at =
       map-one_list
-        (inserted_before at node)
-        refl
-        all.lists
-        list
-        (insert (nodes_of all list) place node)
-        (list_in_range all list place at is_at)
-        (inserted_before-place at node (nodes_of all list) place is_at (λ other is. (disjoint at list place list other is_at is).1))
-        (λ other differ. inserted_before-absent at node (nodes_of all other) (λ where_ is. differ (sym (disjoint at list place other where_ is_at is).0)))
+      (inserted_before at node)
+      refl
+      all.lists
+      list
+      (insert (nodes_of all list) place node)
+      (list_in_range all list place at is_at)
+      (inserted_before-place at node (nodes_of all list) place is_at (λ other is. (disjoint at list place list other is_at is).1))
+      (λ other differ. inserted_before-absent at node (nodes_of all other) (λ where_ is. differ (sym (disjoint at list place other where_ is_at is).0)))
 
   -- taking a node out changes its list, at its place
   pub map-without : (node : ℕ) → IsAt all list place node → map (without node) all.lists ≡ set all.lists list (remove (nodes_of all list) place)
   map-without node is_at =
       map-one_list
-        (without node)
-        refl
-        all.lists
-        list
-        (remove (nodes_of all list) place)
-        (list_in_range all list place node is_at)
-        (without-place node (nodes_of all list) place is_at (λ other is. (disjoint node list place list other is_at is).1))
-        (λ other differ. without-absent node (nodes_of all other) (λ where_ is. differ (sym (disjoint node list place other where_ is_at is).0)))
+      (without node)
+      refl
+      all.lists
+      list
+      (remove (nodes_of all list) place)
+      (list_in_range all list place node is_at)
+      (without-place node (nodes_of all list) place is_at (λ other is. (disjoint node list place list other is_at is).1))
+      (λ other differ. without-absent node (nodes_of all other) (λ where_ is. differ (sym (disjoint node list place other where_ is_at is).0)))

@@ -45,7 +45,7 @@ Represents_from_SameLinks a b all sound same =
       node_count = sound.node_count ∙ sym (ap length same.nodes);
       list_count = sound.list_count ∙ sym (ap length same.sentinels);
       rings = λ l below.
-        IsChain_kept
+          IsChain_kept
           (next_link a)
           (prev_link a)
           (next_link b)
@@ -114,20 +114,20 @@ module _ (a b : Arena) (all : NodeLists) (more_nodes more_lists : ℕ) (sound : 
       let lists_more : length (replicate more_lists []) ≡ more_lists = length-replicate more_lists [] in
       record {
         node_count =
-          ap (λ (n : ℕ). n + more_nodes) sound.node_count
-          ∙ ap (λ (n : ℕ). length a.nodes.items + n) (sym (length-replicate more_nodes no_links))
-          ∙ sym (length-append a.nodes.items (replicate more_nodes no_links))
-          ∙ sym (ap length grows.nodes);
+            ap (λ (n : ℕ). n + more_nodes) sound.node_count
+            ∙ ap (λ (n : ℕ). length a.nodes.items + n) (sym (length-replicate more_nodes no_links))
+            ∙ sym (length-append a.nodes.items (replicate more_nodes no_links))
+            ∙ sym (ap length grows.nodes);
         list_count =
-          lists_long
-          ∙ ap (λ (n : ℕ). length all.lists + n) lists_more
-          ∙ ap (λ (n : ℕ). n + more_lists) sound.list_count
-          ∙ ap (λ (n : ℕ). length a.sentinels.items + n) (sym (length-map-range_with_len empty_ring (length a.sentinels.items) more_lists))
-          ∙ sym (length-append a.sentinels.items (map empty_ring (range_with_len (length a.sentinels.items) more_lists)))
-          ∙ sym (ap length grows.sentinels);
+            lists_long
+            ∙ ap (λ (n : ℕ). length all.lists + n) lists_more
+            ∙ ap (λ (n : ℕ). n + more_lists) sound.list_count
+            ∙ ap (λ (n : ℕ). length a.sentinels.items + n) (sym (length-map-range_with_len empty_ring (length a.sentinels.items) more_lists))
+            ∙ sym (length-append a.sentinels.items (map empty_ring (range_with_len (length a.sentinels.items) more_lists)))
+            ∙ sym (ap length grows.sentinels);
         rings = λ l below. rw (same_nodes_of l) (elim (cases_lt l (length all.lists)) [
           | inl old ↦
-            IsChain_kept
+              IsChain_kept
               (next_link a)
               (prev_link a)
               (next_link b)
@@ -140,12 +140,12 @@ module _ (a b : Arena) (all : NodeLists) (more_nodes more_lists : ℕ) (sound : 
               (sentinel_unlinked l)
               (sound.rings l old)
           | inr new ↦
-            let ring = new_ring l (omega (arith, sound.list_count)) (omega (arith, sound.list_count, lists_long, lists_more)) in
-            rw (get_or_past all.lists l [] new) (ap (λ links. links.next) ring, ap (λ links. links.prev) ring)
+              let ring = new_ring l (omega (arith, sound.list_count)) (omega (arith, sound.list_count, lists_long, lists_more)) in
+              rw (get_or_past all.lists l [] new) (ap (λ links. links.next) ring, ap (λ links. links.prev) ring)
         ]);
         linked = λ node leads.
-          let was = sound.linked node (λ none. leads (node_next node ∙ none)) in
-          (was.0, was.1, rw (same_nodes_of was.0) was.2);
+            let was = sound.linked node (λ none. leads (node_next node ∙ none)) in
+            (was.0, was.1, rw (same_nodes_of was.0) was.2);
       }
 
 -- the lists after a call that grows the arena or leaves it as it was

@@ -80,27 +80,27 @@ module _ (a : Arena) (all : NodeLists) (sound : Represents a all) where
   pub IsDisjoint_from_sound : IsDisjoint all
   IsDisjoint_from_sound node list place other_list other_place at at' =
       one_place
-        (next_link a)
-        (prev_link a)
-        list
-        other_list
-        place
-        other_place
-        node
-        (nodes_of all list)
-        (nodes_of all other_list)
-        (ring_at list place node at)
-        (ring_at other_list other_place node at')
-        at
-        at'
+      (next_link a)
+      (prev_link a)
+      list
+      other_list
+      place
+      other_place
+      node
+      (nodes_of all list)
+      (nodes_of all other_list)
+      (ring_at list place node at)
+      (ring_at other_list other_place node at')
+      at
+      at'
 
   pub length-nodes_of-le : (list : ℕ) → length (nodes_of all list) ≤ length a.nodes.items
   length-nodes_of-le list =
       length-le_from_places
-        (nodes_of all list)
-        (length a.nodes.items)
-        (λ i j n at at'. (IsDisjoint_from_sound n list i list j at at').1)
-        (λ place n at. node_in_range list place n at)
+      (nodes_of all list)
+      (length a.nodes.items)
+      (λ i j n at at'. (IsDisjoint_from_sound n list i list j at at').1)
+      (λ place n at. node_in_range list place n at)
 
   -- the lists that the links make are these
   pub lists_of-Represents : lists_of a ≡ all
@@ -109,24 +109,24 @@ module _ (a : Arena) (all : NodeLists) (sound : Represents a all) where
       let count = length a.nodes.items in
       let walk = λ (list : ℕ). nodes_from count (next_link a) (next_link a (Sentinel list)) in
       let same : map walk (range_with_len 0 (length a.sentinels.items)) ≡ all.lists =
-        ext_get_or
-          []
-          _
-          _
-          (length-map-range_with_len walk 0 (length a.sentinels.items) ∙ sym sound.list_count)
-          (λ list below.
-            let is_list : list < length a.sentinels.items = omega (arith, length-map-range_with_len walk 0 (length a.sentinels.items)) in
-            get_or-map-range_with_len walk 0 (length a.sentinels.items) list list [] is_list (omega arith)
-            ∙ nodes_from-IsChain
-              (next_link a)
-              (prev_link a)
-              count
-              (Sentinel list)
-              (nodes_of all list)
-              list
-              (sound.rings list (omega (arith, sound.list_count)))
-              (length-nodes_of-le list)
-          )
+      ext_get_or
+      []
+      _
+      _
+      (length-map-range_with_len walk 0 (length a.sentinels.items) ∙ sym sound.list_count)
+      (λ list below.
+      let is_list : list < length a.sentinels.items = omega (arith, length-map-range_with_len walk 0 (length a.sentinels.items)) in
+      get_or-map-range_with_len walk 0 (length a.sentinels.items) list list [] is_list (omega arith)
+      ∙ nodes_from-IsChain
+      (next_link a)
+      (prev_link a)
+      count
+      (Sentinel list)
+      (nodes_of all list)
+      list
+      (sound.rings list (omega (arith, sound.list_count)))
+      (length-nodes_of-le list)
+      )
       in
       let made : NodeLists = record { nodes = count; lists = map walk (range_with_len 0 (length a.sentinels.items)) } in
       let step : made ≡ record { nodes = count; lists = all.lists } = ap (λ (lists : List (List ℕ)). let r : NodeLists = record { nodes = count; lists = lists } in r) same in

@@ -31,10 +31,10 @@ module _ (all : NodeLists) (list : ℕ) where
       let longer = length_push seen node in
       record {
         in_order =
-          ap (λ (ys : List ℕ). ys ++ node ∷ []) walk.in_order
-          ∙ ap (λ (n : ℕ). take (length seen) xs ++ n ∷ []) (sym here)
-          ∙ sym (take_more xs (length seen) node (IsWalk_shorter seen node walk))
-          ∙ ap (λ (n : ℕ). take n xs) (sym longer);
+            ap (λ (ys : List ℕ). ys ++ node ∷ []) walk.in_order
+            ∙ ap (λ (n : ℕ). take (length seen) xs ++ n ∷ []) (sym here)
+            ∙ sym (take_more xs (length seen) node (IsWalk_shorter seen node walk))
+            ∙ ap (λ (n : ℕ). take n xs) (sym longer);
         stands = is ∙ ap (λ (n : ℕ). slice_get xs n) (sym longer);
       }
 

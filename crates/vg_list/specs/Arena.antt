@@ -85,9 +85,9 @@ unfoldable pub lists_of : Arena → NodeLists
 lists_of a = record {
   nodes = length a.nodes.items;
   lists =
-    map
-    (λ list. nodes_from (length a.nodes.items) (next_link a) (next_link a (Sentinel list)))
-    (range_with_len 0 (length a.sentinels.items));
+      map
+      (λ list. nodes_from (length a.nodes.items) (next_link a) (next_link a (Sentinel list)))
+      (range_with_len 0 (length a.sentinels.items));
 }
 
 -- the links lead from one end over these nodes, in order, to the other end, and back

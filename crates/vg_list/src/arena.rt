@@ -2,10 +2,9 @@ ghost use Rattle.std.specs.Prelude.{◌≡◌, ◌+◌, ◌^◌, ◌<◌, ◌≤
 ghost use Rattle.std.specs.List.{range_with_len};
 ghost use Rattle.vg_list.specs.Arena.{next_link, prev_link, no_links, empty_ring, IsInRange, SetsNext, SetsPrev, Joins, Clears, SameCounts, Grows, SameLinks};
 
-use std::alloc::{AllocError, Global};
-
 use crate::link::Link;
 use crate::links::Links;
+use std::alloc::{AllocError, Global};
 
 /// The links of all nodes and of the sentinels of all lists.
 #[derive(Drop)]
@@ -40,6 +39,7 @@ impl Arena {
     }
 
     /// Where the link to what follows leads.
+    #[inline]
     pub fn next(&self, at: Link) -> Link
         requires { IsInRange self.now at }
         ensures { result ≡ next_link self.now at }
@@ -52,6 +52,7 @@ impl Arena {
     }
 
     /// Where the link to what stands before leads.
+    #[inline]
     pub fn prev(&self, at: Link) -> Link
         requires { IsInRange self.now at }
         ensures { result ≡ prev_link self.now at }
@@ -63,7 +64,9 @@ impl Arena {
         }
     }
 
-    fn set_next(&mut self, at: Link, to: Link)
+    /// Sets the link to what follows.
+    #[inline]
+    pub fn set_next(&mut self, at: Link, to: Link)
         requires { IsInRange self.old at }
         ensures links { SetsNext self.old self.new at to }
         ensures counts { SameCounts self.old self.new }
@@ -75,7 +78,9 @@ impl Arena {
         }
     }
 
-    fn set_prev(&mut self, at: Link, to: Link)
+    /// Sets the link to what stands before.
+    #[inline]
+    pub fn set_prev(&mut self, at: Link, to: Link)
         requires { IsInRange self.old at }
         ensures links { SetsPrev self.old self.new at to }
         ensures counts { SameCounts self.old self.new }
@@ -88,6 +93,7 @@ impl Arena {
     }
 
     /// Makes `after` follow `before`, by both links between them.
+    #[inline]
     pub fn join(&mut self, before: Link, after: Link)
         requires before { IsInRange self.old before }
         requires after { IsInRange self.old after }
@@ -99,6 +105,7 @@ impl Arena {
     }
 
     /// Takes the links off a node.
+    #[inline]
     pub fn clear(&mut self, node: u32)
         requires { node < length self.old.nodes.items }
         ensures links { Clears self.old self.new node }

@@ -16,6 +16,7 @@ impl Link {
     ghost use Rattle.vg_list.specs.Link.{node_of};
 
     /// The node that the link leads to.
+    #[inline]
     pub fn node(self) -> Option<u32>
         ensures { result ≡ node_of self }
     {
@@ -26,6 +27,7 @@ impl Link {
     }
 
     /// Whether the link leads to a node or a sentinel.
+    #[inline]
     pub fn leads(self) -> bool
         ensures { IsTrue result ↔ (self ≢ Link.Unlinked) }
     {

@@ -1,11 +1,10 @@
 ghost use Rattle.std.specs.Prelude.{◌≡◌, ◌≢◌, ◌<◌, ◌≤◌, length, IfOk, OnOk, AllPairs};
 ghost use Rattle.vg_list.specs.NodeLists.{nodes_of};
 
+use super::Lists;
 use std::alloc::{AllocError, Global};
 use std::process::Abort;
 use std::test::Fail;
-
-use super::Lists;
 
 /// The nodes that a walk of the list sees.
 fn walked(alloc: Global, lists: &Lists, list: u32) -> Result<Vec<u32>, AllocError>
@@ -128,7 +127,10 @@ fn growth_keeps_lists(rt: HostRuntime) -> Result<(), Fail> {
     make(&rt, &mut lists, Call::PushBack(1, 2));
     make(&rt, &mut lists, Call::PushBack(0, 1));
     grow(&rt, rt.alloc(), &mut lists)?;
-    assert_eq!(rt; walked(rt.alloc(), &lists, 0)?.as_slice(), [3, 1].as_slice());
+    assert_eq!(rt;
+        walked(rt.alloc(), &lists, 0)?.as_slice(),
+        [3, 1].as_slice()
+    );
     assert_eq!(rt; walked(rt.alloc(), &lists, 1)?.as_slice(), [2].as_slice());
     assert!(rt; lists.first(8).is_none() && !lists.is_linked(11));
     Ok(())

@@ -22,19 +22,19 @@ inserted : (c : After-join-2) → Represents c.join-2.new.self (changed (inserte
 inserted c =
     let sound = Represents_from_IsSound c.self.inside.arena c.args.self.now c.self.invariant c.self.view_is in
     Represents_inserted
-      c.self.inside.arena
-      c.join.new.self
-      c.join-2.new.self
-      c.args.self.now
-      sound
-      c.join.ensures.counts
-      c.join-2.ensures.counts
-      c.args.at
-      c.args.node
-      c.requires.at
-      c.requires.free
-      (rw c.prev-before.ensures at c.join.ensures.links)
-      c.join-2.ensures.links
+    c.self.inside.arena
+    c.join.new.self
+    c.join-2.new.self
+    c.args.self.now
+    sound
+    c.join.ensures.counts
+    c.join-2.ensures.counts
+    c.args.at
+    c.args.node
+    c.requires.at
+    c.requires.free
+    (rw c.prev-before.ensures at c.join.ensures.links)
+    c.join-2.ensures.links
 
 pub invariant_of-self : goal.invariant_of-self
 invariant_of-self c = IsSound_from_Represents c.join-2.new.self _ (inserted c)

@@ -16,19 +16,19 @@ pushed : (c : After-join-2) → Represents c.join-2.new.self (with_list c.args.s
 pushed c =
     let sound = Represents_from_IsSound c.self.inside.arena c.args.self.now c.self.invariant c.self.view_is in
     Represents_pushed
-      c.self.inside.arena
-      c.join.new.self
-      c.join-2.new.self
-      c.args.self.now
-      sound
-      c.join.ensures.counts
-      c.join-2.ensures.counts
-      c.args.list
-      c.args.node
-      c.requires.list
-      c.requires.free
-      (rw c.prev-before.ensures at c.join.ensures.links)
-      c.join-2.ensures.links
+    c.self.inside.arena
+    c.join.new.self
+    c.join-2.new.self
+    c.args.self.now
+    sound
+    c.join.ensures.counts
+    c.join-2.ensures.counts
+    c.args.list
+    c.args.node
+    c.requires.list
+    c.requires.free
+    (rw c.prev-before.ensures at c.join.ensures.links)
+    c.join-2.ensures.links
 
 pub invariant_of-self : goal.invariant_of-self
 invariant_of-self c = IsSound_from_Represents c.join-2.new.self _ (pushed c)

@@ -20,11 +20,11 @@ pub join-requires-in-Node-clause-before : goal.join-requires-in-Node-clause-befo
 join-requires-in-Node-clause-before c =
     let sound = Represents_from_IsSound c.self.inside.arena c.args.self.now c.self.invariant c.self.view_is in
     IsInRange_kept
-      c.self.inside.arena
-      c.join.new.self
-      c.prev-last.result
-      c.join.ensures.counts
-      (rw c.prev-last.ensures (last_in_range c.self.inside.arena c.args.self.now sound c.args.from c.requires.from))
+    c.self.inside.arena
+    c.join.new.self
+    c.prev-last.result
+    c.join.ensures.counts
+    (rw c.prev-last.ensures (last_in_range c.self.inside.arena c.args.self.now sound c.args.from c.requires.from))
 
 -- the links after the call
 spliced : (c : After-join-in-Node-2) → Represents c.join-in-Node-2.new.self (with_list (with_list c.args.self.now c.args.to (nodes_of c.args.self.now c.args.to ++ nodes_of c.args.self.now c.args.from)) c.args.from [])
@@ -32,25 +32,25 @@ spliced c =
     let sound = Represents_from_IsSound c.self.inside.arena c.args.self.now c.self.invariant c.self.view_is in
     let links = rw c.prev-end.ensures at c.join.ensures.links in
     Represents_spliced
-      c.self.inside.arena
-      c.join.new.self
-      c.join-in-Node.new.self
-      c.join-in-Node-2.new.self
-      c.args.self.now
-      sound
-      c.join.ensures.counts
-      c.join-in-Node.ensures.counts
-      c.join-in-Node-2.ensures.counts
-      c.args.from
-      c.args.to
-      c.in-Node.field-0
-      c.requires.from
-      c.requires.to
-      c.requires.differ
-      (sym c.next-first.ensures ∙ c.in-Node.is)
-      (rw c.in-Node.is at links)
-      (rw c.prev-last.ensures at c.join-in-Node.ensures.links)
-      c.join-in-Node-2.ensures.links
+    c.self.inside.arena
+    c.join.new.self
+    c.join-in-Node.new.self
+    c.join-in-Node-2.new.self
+    c.args.self.now
+    sound
+    c.join.ensures.counts
+    c.join-in-Node.ensures.counts
+    c.join-in-Node-2.ensures.counts
+    c.args.from
+    c.args.to
+    c.in-Node.field-0
+    c.requires.from
+    c.requires.to
+    c.requires.differ
+    (sym c.next-first.ensures ∙ c.in-Node.is)
+    (rw c.in-Node.is at links)
+    (rw c.prev-last.ensures at c.join-in-Node.ensures.links)
+    c.join-in-Node-2.ensures.links
 
 pub invariant_of-self : goal.invariant_of-self
 invariant_of-self c = IsSound_from_Represents c.join-in-Node-2.new.self _ (spliced c)

@@ -39,17 +39,17 @@ removed c =
     let sound = Represents_from_IsSound c.self.inside.arena c.args.self.now c.self.invariant c.self.view_is in
     let links = rw c.prev-before.ensures at c.join.ensures.links in
     Represents_removed
-      c.self.inside.arena
-      c.join.new.self
-      c.clear.new.self
-      c.args.self.now
-      sound
-      c.join.ensures.counts
-      c.clear.ensures.counts
-      c.args.node
-      c.requires
-      (rw c.next-after.ensures at links)
-      c.clear.ensures.links
+    c.self.inside.arena
+    c.join.new.self
+    c.clear.new.self
+    c.args.self.now
+    sound
+    c.join.ensures.counts
+    c.clear.ensures.counts
+    c.args.node
+    c.requires
+    (rw c.next-after.ensures at links)
+    c.clear.ensures.links
 
 pub invariant_of-self : goal.invariant_of-self
 invariant_of-self c = IsSound_from_Represents c.clear.new.self _ (removed c)

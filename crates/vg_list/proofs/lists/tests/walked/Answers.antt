@@ -8,7 +8,7 @@ loop-current-preserved c =
     let walk = rw c.in-Some.is at c.loop-current.invariant in
     let at = IsAt_from_IsWalk all c.args.list seen c.in-Some.node walk in
     rw c.in_ok-push.ensures.items (
-      IsWalk_goes_on all c.args.list seen c.in-Some.node c.next-current.result walk (c.next-current.ensures.node c.args.list _ at)
+    IsWalk_goes_on all c.args.list seen c.in-Some.node c.next-current.result walk (c.next-current.ensures.node c.args.list _ at)
     )
 
 pub returns-clause-in_order : goal.returns-clause-in_order
