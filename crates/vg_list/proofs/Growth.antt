@@ -76,6 +76,10 @@ grown all more_nodes more_lists = record {
   lists = all.lists ++ replicate more_lists [];
 }
 
+-- the lists that are new are empty, like those that aren't there
+pub nodes_of-grown : (all : NodeLists) (more_nodes more_lists list : ℕ) → nodes_of (grown all more_nodes more_lists) list ≡ nodes_of all list
+nodes_of-grown all more_nodes more_lists list = get_or-append-replicate all.lists more_lists list []
+
 module _ (a b : Arena) (all : NodeLists) (more_nodes more_lists : ℕ) (sound : Represents a all) (grows : Grows a b more_nodes more_lists) where
   node_next : (node : ℕ) → next_link b (Node node) ≡ next_link a (Node node)
   node_next node = ap (λ items. (get_or items node no_links).next) grows.nodes ∙ ap (λ links. links.next) (get_or-append-replicate a.nodes.items more_nodes node no_links)
@@ -105,9 +109,6 @@ module _ (a b : Arena) (all : NodeLists) (more_nodes more_lists : ℕ) (sound : 
       ∙ get_or-append_right a.sentinels.items (map empty_ring (range_with_len count more_lists)) count list no_links refl low
       ∙ get_or-map-range_with_len empty_ring count more_lists (list - count) list no_links (omega arith) (omega arith)
 
-  same_nodes_of : (list : ℕ) → nodes_of (grown all more_nodes more_lists) list ≡ nodes_of all list
-  same_nodes_of list = get_or-append-replicate all.lists more_lists list []
-
   pub Represents_grown : Represents b (grown all more_nodes more_lists)
   Represents_grown =
       let lists_long = length-append all.lists (replicate more_lists []) in
@@ -125,7 +126,7 @@ module _ (a b : Arena) (all : NodeLists) (more_nodes more_lists : ℕ) (sound : 
             ∙ ap (λ (n : ℕ). length a.sentinels.items + n) (sym (length-map-range_with_len empty_ring (length a.sentinels.items) more_lists))
             ∙ sym (length-append a.sentinels.items (map empty_ring (range_with_len (length a.sentinels.items) more_lists)))
             ∙ sym (ap length grows.sentinels);
-        rings = λ l below. rw (same_nodes_of l) (elim (cases_lt l (length all.lists)) [
+        rings = λ l below. rw (nodes_of-grown all more_nodes more_lists l) (elim (cases_lt l (length all.lists)) [
           | inl old ↦
               IsChain_kept
               (next_link a)
@@ -145,7 +146,7 @@ module _ (a b : Arena) (all : NodeLists) (more_nodes more_lists : ℕ) (sound : 
         ]);
         linked = λ node leads.
             let was = sound.linked node (λ none. leads (node_next node ∙ none)) in
-            (was.0, was.1, rw (same_nodes_of was.0) was.2);
+            (was.0, was.1, rw (nodes_of-grown all more_nodes more_lists was.0) was.2);
       }
 
 -- the lists after a call that grows the arena or leaves it as it was

@@ -5,3 +5,4 @@ pub mod Changes
 pub mod Growth
 pub mod Walks
 pub mod Edits
+pub mod Linked

@@ -36,8 +36,8 @@
 //!
 //! The loop above is proved to see the nodes of its list, in order and each once, by the invariant
 //! `IsWalk` of `specs/Walk.antt` and the laws of `proofs/Walks.antt`; `lists/tests.rt` has such a
-//! loop. What a change leaves of a list, and which nodes are linked after it, is in
-//! `proofs/Edits.antt` and `proofs/Places.antt`.
+//! loop. Which nodes are linked after a call is in `proofs/Linked.antt`, and what a list without
+//! the node keeps in `proofs/Edits.antt`.
 #![tactic(auto)]
 
 mod arena;
