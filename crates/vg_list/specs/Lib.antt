@@ -1,0 +1,4 @@
+pub mod NodeLists
+pub mod Link
+pub mod Arena
+pub mod Walk
