@@ -1,0 +1,4 @@
+pub mod Tables
+pub mod Lexing
+pub mod Front
+pub mod Rows
