@@ -1,9 +1,12 @@
 -- One step of each loop over a text.
 use Rattle.std.proofs.Common.{◌≡◌, ℕ, zero, suc, ◌+◌, ◌*◌, ◌<◌, ◌≤◌, Bool, true, false, cond, ◌&&◌, eqb, List, [], ◌∷◌, length, get_or, drop, Option, Some, None, refl, sym, ap, ◌∙◌, arith}
-use Rattle.std.proofs.lemmas.List.{at_drop_more, at_drop_all}
+use Rattle.std.proofs.lemmas.List.{at_drop_more, at_drop_all, drop_more}
 use Rattle.std.proofs.Math.Nat.{mul-le-mul_left}
-use Rattle.std.specs.Char.{is_digit, digit_value}
-use Rattle.vg_tok.specs.Lexing.{same_text, entry_of, value_from}
+use Rattle.std.proofs.Common.{length-append, length-drop, ◌++◌, ◌||◌}
+use Rattle.std.proofs.lemmas.Str.{length-encode}
+use Rattle.std.specs.Char.{is_digit, digit_value, len_utf8, encode_utf8}
+use Rattle.std.specs.Str.{encode_utf8_all}
+use Rattle.vg_tok.specs.Lexing.{same_text, value_from, byte_len, has_close}
 use Rattle.vg_tok.specs.Front.{close_from, digits_from}
 
 and_false : (b : Bool) → (b && false) ≡ false
@@ -65,3 +68,32 @@ pub ruleset close_steps = (close_from-drop, close_from-end)
 pub ruleset digit_steps = (digits_from-drop, digits_from-end)
 pub ruleset value_steps = (value_from-drop, value_from-end, value_from-le)
 pub ruleset text_steps = (same_text-drop, same_text-end, same_text-lengths)
+
+pub byte_len-cons : (c : ℕ) (cs : List ℕ) → byte_len (c ∷ cs) ≡ len_utf8 c + byte_len cs
+byte_len-cons c cs = simp (length-append, length-encode)
+
+pub byte_len-drop : (text : List ℕ) (i : ℕ) → i < length text → byte_len (drop i text) ≡ len_utf8 (get_or text i 0) + byte_len (drop (i + 1) text)
+byte_len-drop text i h = at_drop_more byte_len text i 0 h ∙ byte_len-cons (get_or text i 0) (drop (i + 1) text)
+
+pub byte_len-end : (text : List ℕ) (i : ℕ) → length text ≤ i → byte_len (drop i text) ≡ 0
+byte_len-end text i h = at_drop_all byte_len text i h
+
+pub ruleset byte_steps = (byte_len-drop, byte_len-end)
+
+has_close-short : (bytes : List ℕ) → length bytes ≤ 1 → has_close bytes ≡ false
+has_close-short [] h = refl
+has_close-short (b ∷ []) h = refl
+has_close-short (b ∷ c ∷ bs) h = absurd (omega arith)
+
+pub has_close-drop : (bytes : List ℕ) (i : ℕ) → i + 1 < length bytes
+    → has_close (drop i bytes) ≡ ((eqb (get_or bytes i 0) 42 && eqb (get_or bytes (i + 1) 0) 47) || has_close (drop (i + 1) bytes))
+has_close-drop bytes i h =
+    let here : i < length bytes = omega arith in
+    let first = at_drop_more has_close bytes i 0 here in
+    let second = drop_more bytes (i + 1) 0 h in
+    first ∙ (ap (λ x. has_close (get_or bytes i 0 ∷ x)) second ∙ ap (λ x. (eqb (get_or bytes i 0) 42 && eqb (get_or bytes (i + 1) 0) 47) || has_close x) (sym second))
+
+pub has_close-end : (bytes : List ℕ) (i : ℕ) → length bytes ≤ i + 1 → has_close (drop i bytes) ≡ false
+has_close-end bytes i h = has_close-short (drop i bytes) (rw length-drop (omega arith))
+
+pub ruleset has_close_steps = (has_close-drop, has_close-end)

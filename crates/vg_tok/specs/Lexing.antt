@@ -64,11 +64,16 @@ prefix Decimal = []
 prefix Hexadecimal = codes "0x"
 prefix Binary = codes "0b"
 
--- one or more digits; a single `'` (39) may stand between two of them
+-- digits that go on a number: a single `'` (39) may stand before each
+abbrev pub go_on : ℕ → List ℕ → Bool
+go_on base [] = true
+go_on base (c ∷ []) = is_digit c base
+go_on base (c ∷ d ∷ cs) = if c == 39 then is_digit d base && go_on base cs else is_digit c base && go_on base (d ∷ cs)
+
+-- one or more digits; a single `'` may stand between two of them
 abbrev pub are_digits : ℕ → List ℕ → Bool
 are_digits base [] = false
-are_digits base (c ∷ []) = is_digit c base
-are_digits base (c ∷ d ∷ cs) = is_digit c base && (if d == 39 then are_digits base cs else are_digits base (d ∷ cs))
+are_digits base (c ∷ cs) = is_digit c base && go_on base cs
 
 -- the number that begins with the digits of n and goes on with these; a `'` means nothing
 abbrev pub value_from : ℕ → ℕ → List ℕ → ℕ
