@@ -458,3 +458,6 @@ means (c ∷ cs) =
     chosen (is_digit c 10) _ _ P (λ h. number_means c cs h n) (λ d.
     chosen (c == 34) _ _ P (λ h. string_here c cs h n) (λ q.
     sign_means c cs (class-other c w s d q) w n))))))
+
+pub means_at : (l : Lexeme) (cs : List ℕ) → l ≡ lexeme_at cs → Means l cs
+means_at l cs e = subst (λ (m : Lexeme). Means m cs) (sym e) (means cs)

@@ -29,7 +29,8 @@ fn valid_front(bytes: &[u8]) -> &str
 /// The characters at the front of the bytes, and the bytes behind them, which begin with no character.
 #[tactic(auto, using(crate::proofs::Decoding::decoded_steps))]
 pub(crate) fn decoded(alloc: Global, bytes: &[u8]) -> Result<(Vec<char>, &[u8]), AllocError>
-    ensures { IfOk result (λ found. AreDecoded bytes.now found.0.items found.1.now) }
+    ensures decoded { IfOk result (λ found. AreDecoded bytes.now found.0.items found.1.now) }
+    ensures fits { IfOk result (λ found. byte_len found.0.items < 2 ^ 64) }
 {
     let front = valid_front(bytes);
     let characters = characters_of(alloc, front)?;

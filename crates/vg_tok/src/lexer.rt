@@ -1,4 +1,4 @@
-ghost use Rattle.std.specs.Prelude.{◌≡◌, ◌⊎◌, ◌+◌, ◌^◌, ◌<◌, ◌≤◌, ℕ, List, [], IfOk, IfErr, IsTrue, length, Some, None, MatchResult};
+ghost use Rattle.std.specs.Prelude.{◌≡◌, ◌⊎◌, ◌+◌, ◌^◌, ◌<◌, ◌≤◌, ℕ, List, [], IfOk, IfErr, IsErrAnd, length, take, drop, ◌-◌, Some, None, MatchResult};
 ghost use Rattle.vg_tok.specs.declared.token.Token.{Token};
 ghost use Rattle.vg_tok.specs.declared.fault.TokFault.{TokFault};
 ghost use Rattle.vg_tok.specs.Lexing.{Lexes, IsFault, IsFaultAhead, byte_len, has_close};
@@ -21,6 +21,16 @@ fn name_kind(alloc: Global, text: &[char]) -> Result<Kind, AllocError>
     }
     let name = Chars::from_slice(alloc, text)?;
     Ok(Kind::Name(name))
+}
+
+/// The characters of a string of `len` characters at the front of a text, without its quotes.
+fn between_quotes(text: &[char], len: usize) -> &[char]
+    requires quotes { 2 ≤ len }
+    requires within { len ≤ length text.now }
+    ensures { result.now ≡ take (len - 2) (drop 1 text.now) }
+{
+    let (body, _) = text[1..].split_at(len - 2);
+    body
 }
 
 /// Whether a `*/` stands in the bytes.
@@ -56,7 +66,7 @@ fn element_at(
             Ok((Some(kind), len))
         }
         Lexeme::Str(len) => {
-            let body = Chars::from_slice(alloc, &text[1..len - 1])?;
+            let body = Chars::from_slice(alloc, between_quotes(text, len))?;
             Ok((Some(Kind::Str(body)), len))
         }
         Lexeme::Number(value, len) => Ok((Some(Kind::Number(value)), len)),
@@ -94,12 +104,13 @@ fn tokens_of(
         let (kind, len) = element_at(alloc, rest, behind, at)?;
         let (text, after) = rest.split_at(len);
         let end = at + byte_len(text);
-        if let Some(kind) = kind {
-            tokens.push(Token {
+        match kind {
+            Some(kind) => tokens.push(Token {
                 kind,
                 start: at,
                 end,
-            })?;
+            })?,
+            None => {}
         }
         rest = after;
         at = end;
@@ -110,11 +121,25 @@ fn tokens_of(
     Ok(tokens)
 }
 
-/// The tokens of a text, in order, or its first fault.
-pub fn tokens(alloc: Global, text: &[u8]) -> Result<Items<Token>, TokFault>
+fn lexed(alloc: Global, text: &[u8]) -> Result<Items<Token>, TokFault>
     ensures tokens { IfOk result (λ tokens. Lexes text.now tokens) }
-    ensures fault { IfErr result (λ fault. (fault ≡ TokFault.OutOfMemory) ⊎ IsFault text.now fault) }
+    ensures fault { IfErr result (λ fault. IsFaultOr fault (IsFault text.now fault)) }
 {
     let (characters, behind) = decoded(alloc, text)?;
     tokens_of(alloc, characters.as_slice(), behind)
+}
+
+/// The tokens of a text of bytes, in order, or its first fault.
+pub fn tokens(alloc: Global, text: &[u8]) -> Result<Items<Token>, TokFault>
+    // What is answered is so.
+    ensures tokens { IfOk result (λ tokens. Lexes text.now tokens) }
+    ensures fault { IfErr result (λ fault. (fault ≡ TokFault.OutOfMemory) ⊎ IsFault text.now fault) }
+
+    // Where a text has tokens or a fault, it is answered, unless memory runs out.
+    ensures accepts { (ts : List Token) → Lexes text.now ts
+        → MatchResult result (λ tokens. tokens ≡ ts) (λ fault. fault ≡ TokFault.OutOfMemory) }
+    ensures refuses { (f : TokFault) → IsFault text.now f
+        → IsErrAnd result (λ fault. (fault ≡ TokFault.OutOfMemory) ⊎ (fault ≡ f)) }
+{
+    lexed(alloc, text)
 }
