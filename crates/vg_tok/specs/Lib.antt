@@ -1,0 +1,6 @@
+pub mod Tables
+pub mod Lexing
+pub mod Front
+pub mod Rows
+pub mod Decode
+pub mod Reading
