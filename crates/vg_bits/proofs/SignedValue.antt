@@ -2,7 +2,7 @@
 use Rattle.std.proofs.Common.{◌≡◌, ℕ, zero, suc, ◌+◌, ◌-◌, ◌*◌, ◌/◌, ◌%◌, ◌^◌, ◌<◌, ◌≤◌, ◌≢◌, ◌⊎◌, inl, inr, ℤ, pos, negsuc, neg_ℤ, ◌-ℤ◌, ◌*ℤ◌, Bool, true, false, nat_lt, nat_le, arith, ap, sym, ◌∙◌, refl}
 use Rattle.std.specs.Prelude.{int_lt, int_div, int_rem, unsigned_abs, ◌==◌}
 use Rattle.std.specs.Int.{int_div_euclid}
-use Rattle.std.proofs.lemmas.Nat.{shr_le, pow-add, mul-lt}
+use Rattle.std.proofs.lemmas.Nat.{shr_le, pow-add, pow_pos, mul-lt}
 use Rattle.std.proofs.lemmas.Int.{ints}
 use Rattle.std.proofs.lemmas.Bool.{lt-ltb, cases_lt}
 use Rattle.std.proofs.lemmas.Bool.Decides.{nat_tests}
@@ -115,13 +115,30 @@ signed_value-negative n a below s =
     let h : 2 ^ (n - 1) ≤ a = grind (arith, nat_tests) in
     signed_value-high n a h below
 
-pub abs-low : (n a : ℕ) → a < 2 ^ (n - 1) → unsigned_abs (signed_value (of n a)) ≡ a
-abs-low n a h = ap unsigned_abs (signed_value-low n a h)
+pub abs-not_negative : (n a : ℕ) → a < 2 ^ n → int_lt (signed_value (of n a)) (pos 0) ≡ false → unsigned_abs (signed_value (of n a)) ≡ a
+abs-not_negative n a below s = ap unsigned_abs (signed_value-not_negative n a below s)
 
-pub abs-high : (n a : ℕ) → 2 ^ (n - 1) ≤ a → a < 2 ^ n → unsigned_abs (signed_value (of n a)) ≡ 2 ^ n - 1 - a + 1
-abs-high n a h below =
-    let e : suc (2 ^ n - suc a) ≡ 2 ^ n - 1 - a + 1 = omega arith in
-    ap unsigned_abs (signed_value-high n a h below) ∙ e
+pub abs-negative : (n a : ℕ) → a < 2 ^ n → int_lt (signed_value (of n a)) (pos 0) ≡ true → unsigned_abs (signed_value (of n a)) ≡ (2 ^ n + 0 - a) % 2 ^ n
+abs-negative n a below s =
+    let e : nat_le (2 ^ (n - 1)) a ≡ true = nat_le-top n a below ∙ s in
+    let h : 2 ^ (n - 1) ≤ a = grind (arith, nat_tests) in
+    let half : 0 < 2 ^ (n - 1) = pow_pos (n - 1) in
+    let fits : 2 ^ n + 0 - a < 2 ^ n = omega arith in
+    let d : suc (2 ^ n - suc a) ≡ 2 ^ n + 0 - a = omega arith in
+    ap unsigned_abs (signed_value-negative n a below s) ∙ d ∙ sym (mod-eq_of_lt fits)
+
+-- only 0 has the absolute value 0
+pub abs_nonzero : (n a r : ℕ) → a < 2 ^ n → r ≡ unsigned_abs (signed_value (of n a)) → 0 < a → 0 < r
+abs_nonzero n a r below er h =
+    let low : a < 2 ^ (n - 1) → 0 < r =
+    λ (l : a < 2 ^ (n - 1)).
+    let e : r ≡ a = er ∙ ap unsigned_abs (signed_value-low n a l) in omega arith
+    in
+    let high : 2 ^ (n - 1) ≤ a → 0 < r =
+    λ (l : 2 ^ (n - 1) ≤ a).
+    let e : r ≡ suc (2 ^ n - suc a) = er ∙ ap unsigned_abs (signed_value-high n a l below) in omega arith
+    in
+    elim (cases_lt a (2 ^ (n - 1))) [ inl h ↦ low h | inr h ↦ high h ]
 
 -- a shift to the right, rounded down
 pub shifted-not_negative : (n a k : ℕ) → a < 2 ^ n → int_lt (signed_value (of n a)) (pos 0) ≡ false → wrapped n (int_div_euclid (signed_value (of n a)) (pos (2 ^ k))) ≡ a / 2 ^ k
@@ -243,3 +260,12 @@ product_fits n a b p q =
     let e : 2 * n ≡ n + n = omega arith in
     let split : 2 ^ (2 * n) ≡ 2 ^ n * 2 ^ n = ap (λ (k : ℕ). 2 ^ k) e ∙ pow-add 2 n n in
     rw split (mul-lt a b (2 ^ n) (2 ^ n) p q)
+
+-- where the divisor is 0
+pub signed_quotient-zero : (n a b : ℕ) → b ≡ 0 → signed_quotient (of n a) (of n b) ≡ 2 ^ n - 1
+unfolding signed_quotient
+signed_quotient-zero n a b h = let e : (b == 0) ≡ true = grind (arith, nat_tests) in rw e refl
+
+pub signed_remainder-zero : (n a b : ℕ) → b ≡ 0 → signed_remainder (of n a) (of n b) ≡ a
+unfolding signed_remainder
+signed_remainder-zero n a b h = let e : (b == 0) ≡ true = grind (arith, nat_tests) in rw e refl

@@ -3,10 +3,13 @@ ghost use Rattle.vg_bits.specs.BitValue as bits;
 
 use crate::Width;
 use crate::signed::{
-    is_negative, is_signed_below, signed_extended, signed_product, signed_quotient,
-    signed_remainder, signed_right, unsigned_product,
+    is_signed_below, signed_extended, signed_product, signed_quotient, signed_remainder,
+    total_signed_right, unsigned_product,
 };
-use crate::words::{difference, left, low_bits, ones, product, quotient, remainder, right, sum};
+use crate::words::{
+    difference, left, low_bits, ones, product, right, sum, total_left, total_quotient,
+    total_remainder, total_right,
+};
 use std::marker::Model;
 
 /// A value of 1 to 128 bits: a width, and a number below 2 to that width.
@@ -163,11 +166,7 @@ impl Bits {
         ensures { result ≡ bits.udiv self o }
     {
         let n = self.width.bits();
-        if o.value == 0 {
-            Bits::of(self.width, ones(n))
-        } else {
-            Bits::of(self.width, quotient(self.value, o.value, n))
-        }
+        Bits::of(self.width, total_quotient(self.value, o.value, n))
     }
 
     /// The remainder of the unsigned numbers, the dividend where the divisor is 0.
@@ -178,11 +177,7 @@ impl Bits {
         ensures { result ≡ bits.urem self o }
     {
         let n = self.width.bits();
-        if o.value == 0 {
-            self
-        } else {
-            Bits::of(self.width, remainder(self.value, o.value, n))
-        }
+        Bits::of(self.width, total_remainder(self.value, o.value, n))
     }
 
     /// Shifts to the left by the number of `o`: 0 where that is the width or more.
@@ -192,11 +187,7 @@ impl Bits {
         ensures { result ≡ bits.shl self o }
     {
         let n = self.width.bits();
-        if o.value < n as u128 {
-            Bits::of(self.width, left(self.value, o.value as u8, n))
-        } else {
-            Bits::of(self.width, 0)
-        }
+        Bits::of(self.width, total_left(self.value, o.value, n))
     }
 
     /// Shifts to the right by the number of `o`: 0 where that is the width or more.
@@ -206,11 +197,7 @@ impl Bits {
         ensures { result ≡ bits.shr self o }
     {
         let n = self.width.bits();
-        if o.value < n as u128 {
-            Bits::of(self.width, right(self.value, o.value as u8, n))
-        } else {
-            Bits::of(self.width, 0)
-        }
+        Bits::of(self.width, total_right(self.value, o.value, n))
     }
 
     /// Whether the two are equal.
@@ -275,33 +262,23 @@ impl Bits {
     /// The quotient of the signed numbers, towards zero: all ones where the divisor is 0, and the
     /// least number where that is divided by -1.
     #[inline(always)]
-    #[tactic(auto, using(std::proofs::lemmas::Bool::Decides::nat_tests), unfolding(crate::specs::BitValue::signed_quotient))]
     pub fn sdiv(self, o: Bits) -> Bits
         requires { self.width ≡ o.width }
         ensures { result ≡ bits.sdiv self o }
     {
         let n = self.width.bits();
-        if o.value == 0 {
-            Bits::of(self.width, ones(n))
-        } else {
-            Bits::of(self.width, signed_quotient(self.value, o.value, n))
-        }
+        Bits::of(self.width, signed_quotient(self.value, o.value, n))
     }
 
     /// The remainder of the signed numbers, with the sign of the dividend: the dividend where the
     /// divisor is 0.
     #[inline(always)]
-    #[tactic(auto, using(std::proofs::lemmas::Bool::Decides::nat_tests), unfolding(crate::specs::BitValue::signed_remainder))]
     pub fn srem(self, o: Bits) -> Bits
         requires { self.width ≡ o.width }
         ensures { result ≡ bits.srem self o }
     {
         let n = self.width.bits();
-        if o.value == 0 {
-            self
-        } else {
-            Bits::of(self.width, signed_remainder(self.value, o.value, n))
-        }
+        Bits::of(self.width, signed_remainder(self.value, o.value, n))
     }
 
     /// The product at double width: of the signed numbers where `signed` is set, and else of the
@@ -330,13 +307,7 @@ impl Bits {
         ensures { result ≡ bits.sar self o }
     {
         let n = self.width.bits();
-        if o.value < n as u128 {
-            Bits::of(self.width, signed_right(self.value, o.value as u8, n))
-        } else if is_negative(self.value, n) {
-            Bits::of(self.width, ones(n))
-        } else {
-            Bits::of(self.width, 0)
-        }
+        Bits::of(self.width, total_signed_right(self.value, o.value, n))
     }
 
     /// Whether the signed number is below that of `o`.

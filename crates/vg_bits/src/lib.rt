@@ -8,3 +8,6 @@ mod words;
 
 pub use bit_value::Bits;
 pub use bit_width::Width;
+
+#[cfg(test)]
+mod tests;
