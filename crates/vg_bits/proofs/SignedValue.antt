@@ -1,5 +1,5 @@
 -- the signed number of a value of n bits, by its highest bit, and what the operators on signed numbers are in terms of absolute values
-use Rattle.std.proofs.Common.{◌≡◌, ℕ, zero, suc, ◌+◌, ◌-◌, ◌*◌, ◌/◌, ◌%◌, ◌^◌, ◌<◌, ◌≤◌, ◌≢◌, ◌⊎◌, inl, inr, ℤ, pos, negsuc, neg_ℤ, ◌-ℤ◌, ◌*ℤ◌, Bool, true, false, nat_lt, nat_le, arith, ap, sym, ◌∙◌, refl}
+use Rattle.std.proofs.Common.{◌≡◌, ℕ, zero, suc, ◌+◌, ◌-◌, ◌*◌, ◌/◌, ◌%◌, ◌^◌, ◌<◌, ◌≤◌, ◌≢◌, inl, inr, ℤ, pos, negsuc, neg_ℤ, ◌-ℤ◌, ◌*ℤ◌, Bool, true, false, nat_lt, nat_le, arith, ap, sym, ◌∙◌, refl}
 use Rattle.std.specs.Prelude.{int_lt, int_div, int_rem, unsigned_abs, ◌==◌}
 use Rattle.std.specs.Int.{int_div_euclid}
 use Rattle.std.proofs.lemmas.Nat.{shr_le, pow-add, pow_pos, mul-lt}

@@ -12,7 +12,8 @@ use crate::words::{
 };
 use std::marker::Model;
 
-/// A value of 1 to 128 bits: a width, and a number below 2 to that width.
+/// A value of 1 to 128 bits: a width, and a number below 2 to that width. The derived order goes by
+/// the width first.
 #[derive(Clone, Copy, PartialEq, Eq, PartialOrd, Ord, Hash, Debug)]
 pub struct Bits {
     width: Width,

@@ -1,4 +1,4 @@
-use Rattle.std.proofs.Common.{◌≡◌, ◌<◌, ◌-◌, ◌*◌, ◌%◌, ◌^◌, nat_le, arith, ap, ◌∙◌, ℕ}
+use Rattle.std.proofs.Common.{◌≡◌, ◌-◌, ◌*◌, ◌%◌, ◌^◌, nat_le, arith, ap, ◌∙◌, ℕ}
 use Rattle.std.proofs.lemmas.Nat.{one_shl}
 use Rattle.vg_bits.proofs.SignedValue.{nat_le-top}
 use Rattle.vg_bits.proofs.signed.is_negative.Goals as goal

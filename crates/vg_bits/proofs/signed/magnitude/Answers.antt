@@ -1,4 +1,4 @@
-use Rattle.std.proofs.Common.{sym, ◌∙◌, arith}
+use Rattle.std.proofs.Common.{sym, ◌∙◌}
 use Rattle.vg_bits.proofs.SignedValue.{abs-negative, abs-not_negative}
 use Rattle.vg_bits.proofs.signed.magnitude.Goals as goal
 
