@@ -1,3 +1,4 @@
 pub mod Masks
 pub mod Modular
+pub mod Ranges
 pub mod SignedValue

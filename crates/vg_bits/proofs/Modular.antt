@@ -1,7 +1,7 @@
 -- what a machine word keeps of a result, and how the low bits of that are the result's own
-use Rattle.std.proofs.Common.{◌≡◌, ℕ, zero, suc, ◌+◌, ◌-◌, ◌*◌, ◌/◌, ◌%◌, ◌^◌, ◌<◌, ◌≤◌, bit_or, bit_xor, arith, ap, sym, ◌∙◌, refl}
-use Rattle.std.proofs.lemmas.Nat.{pow_pos, pow-add, or_shifted, mul-add-lt, shl_below, shl_whole, mul-mod}
-use Rattle.std.proofs.Math.Nat.{add-mul-mod_self_left, pow-le-pow_right, mul-suc, mod-eq_of_lt}
+use Rattle.std.proofs.Common.{◌≡◌, ℕ, zero, suc, ◌+◌, ◌-◌, ◌*◌, ◌%◌, ◌^◌, ◌<◌, ◌≤◌, bit_or, arith, ap, sym, ◌∙◌}
+use Rattle.std.proofs.lemmas.Nat.{pow_pos, pow-add, or_shifted, mul-add-lt, shl_whole, mul-mod}
+use Rattle.std.proofs.Math.Nat.{add-mul-mod_self_left, pow-le-pow_right, mul-suc}
 use Rattle.std.proofs.Math.Pow.{mod-mod-pow}
 
 -- the low n bits of the low w bits

@@ -1,28 +1,24 @@
 -- the signed number of a value of n bits, by its highest bit, and what the operators on signed numbers are in terms of absolute values
-use Rattle.std.proofs.Common.{◌≡◌, ℕ, zero, suc, ◌+◌, ◌-◌, ◌*◌, ◌/◌, ◌%◌, ◌^◌, ◌<◌, ◌≤◌, ◌≢◌, ◌⊎◌, inl, inr, ℤ, pos, negsuc, neg_ℤ, ◌-ℤ◌, ◌*ℤ◌, Bool, true, false, nat_lt, nat_le, arith, ap, sym, ◌∙◌, refl}
+use Rattle.std.proofs.Common.{◌≡◌, ℕ, zero, suc, ◌+◌, ◌-◌, ◌*◌, ◌/◌, ◌%◌, ◌^◌, ◌<◌, ◌≤◌, ◌≢◌, inl, inr, ℤ, pos, negsuc, neg_ℤ, ◌-ℤ◌, ◌*ℤ◌, Bool, true, false, nat_lt, nat_le, arith, ap, sym, ◌∙◌, refl}
 use Rattle.std.specs.Prelude.{int_lt, int_div, int_rem, unsigned_abs, ◌==◌}
 use Rattle.std.specs.Int.{int_div_euclid}
-use Rattle.std.proofs.lemmas.Nat.{shr_le, pow-add, mul-lt}
+use Rattle.std.proofs.lemmas.Nat.{shr_le, pow-add, pow_pos, mul-lt}
 use Rattle.std.proofs.lemmas.Int.{ints}
 use Rattle.std.proofs.lemmas.Bool.{lt-ltb, cases_lt}
 use Rattle.std.proofs.lemmas.Bool.Decides.{nat_tests}
 use Rattle.std.proofs.Math.Bool.{beq}
 use Rattle.std.proofs.Math.Nat.{mod-eq_of_lt, mod_self, zero-mod, div-le_self, mod-le}
-use Rattle.vg_bits.specs.BitValue.{BitValue, signed_value, wrapped, signed_quotient, signed_remainder, long_product}
+use Rattle.vg_bits.specs.BitValue.{bit_value, signed_value, wrapped, signed_quotient, signed_remainder, long_product}
 use Rattle.vg_bits.proofs.Modular.{fits_wider}
 
--- a value of n bits
-abbrev pub of : ℕ → ℕ → BitValue
-of n a = record { width = n; number = a }
-
 -- below the half the signed number is the number
-pub signed_value-low : (n a : ℕ) → a < 2 ^ (n - 1) → signed_value (of n a) ≡ pos a
+pub signed_value-low : (n a : ℕ) → a < 2 ^ (n - 1) → signed_value (bit_value n a) ≡ pos a
 unfolding signed_value
 signed_value-low n a h =
     let e : nat_lt a (2 ^ (n - 1)) ≡ true = lt-ltb _ _ h in rw e refl
 
 -- from the half on it is 2 ^ n less
-pub signed_value-high : (n a : ℕ) → 2 ^ (n - 1) ≤ a → a < 2 ^ n → signed_value (of n a) ≡ negsuc (2 ^ n - suc a)
+pub signed_value-high : (n a : ℕ) → 2 ^ (n - 1) ≤ a → a < 2 ^ n → signed_value (bit_value n a) ≡ negsuc (2 ^ n - suc a)
 unfolding signed_value
 signed_value-high n a h below =
     let e : nat_lt a (2 ^ (n - 1)) ≡ false = grind (arith, nat_tests) in
@@ -89,64 +85,81 @@ wrapped-mul-other n (negsuc a) (negsuc b) s h = absurd (s refl)
 
 -- ---- one value, by its highest bit
 
-pub nat_le-top : (n a : ℕ) → a < 2 ^ n → nat_le (2 ^ (n - 1)) a ≡ int_lt (signed_value (of n a)) (pos 0)
+pub nat_le-top : (n a : ℕ) → a < 2 ^ n → nat_le (2 ^ (n - 1)) a ≡ int_lt (signed_value (bit_value n a)) (pos 0)
 nat_le-top n a below =
-    let low : a < 2 ^ (n - 1) → nat_le (2 ^ (n - 1)) a ≡ int_lt (signed_value (of n a)) (pos 0) =
+    let low : a < 2 ^ (n - 1) → nat_le (2 ^ (n - 1)) a ≡ int_lt (signed_value (bit_value n a)) (pos 0) =
     λ (h : a < 2 ^ (n - 1)).
     let e : nat_le (2 ^ (n - 1)) a ≡ false = grind (arith, nat_tests) in
     e ∙ sym (int_lt-pos a) ∙ ap (λ (z : ℤ). int_lt z (pos 0)) (sym (signed_value-low n a h))
     in
-    let high : 2 ^ (n - 1) ≤ a → nat_le (2 ^ (n - 1)) a ≡ int_lt (signed_value (of n a)) (pos 0) =
+    let high : 2 ^ (n - 1) ≤ a → nat_le (2 ^ (n - 1)) a ≡ int_lt (signed_value (bit_value n a)) (pos 0) =
     λ (h : 2 ^ (n - 1) ≤ a).
     let e : nat_le (2 ^ (n - 1)) a ≡ true = grind (arith, nat_tests) in
     e ∙ ap (λ (z : ℤ). int_lt z (pos 0)) (sym (signed_value-high n a h below))
     in
     elim (cases_lt a (2 ^ (n - 1))) [ inl h ↦ low h | inr h ↦ high h ]
 
-pub signed_value-not_negative : (n a : ℕ) → a < 2 ^ n → int_lt (signed_value (of n a)) (pos 0) ≡ false → signed_value (of n a) ≡ pos a
+pub signed_value-not_negative : (n a : ℕ) → a < 2 ^ n → int_lt (signed_value (bit_value n a)) (pos 0) ≡ false → signed_value (bit_value n a) ≡ pos a
 signed_value-not_negative n a below s =
     let e : nat_le (2 ^ (n - 1)) a ≡ false = nat_le-top n a below ∙ s in
     let h : a < 2 ^ (n - 1) = grind (arith, nat_tests) in
     signed_value-low n a h
 
-pub signed_value-negative : (n a : ℕ) → a < 2 ^ n → int_lt (signed_value (of n a)) (pos 0) ≡ true → signed_value (of n a) ≡ negsuc (2 ^ n - suc a)
+pub signed_value-negative : (n a : ℕ) → a < 2 ^ n → int_lt (signed_value (bit_value n a)) (pos 0) ≡ true → signed_value (bit_value n a) ≡ negsuc (2 ^ n - suc a)
 signed_value-negative n a below s =
     let e : nat_le (2 ^ (n - 1)) a ≡ true = nat_le-top n a below ∙ s in
     let h : 2 ^ (n - 1) ≤ a = grind (arith, nat_tests) in
     signed_value-high n a h below
 
-pub abs-low : (n a : ℕ) → a < 2 ^ (n - 1) → unsigned_abs (signed_value (of n a)) ≡ a
-abs-low n a h = ap unsigned_abs (signed_value-low n a h)
+pub abs-not_negative : (n a : ℕ) → a < 2 ^ n → int_lt (signed_value (bit_value n a)) (pos 0) ≡ false → unsigned_abs (signed_value (bit_value n a)) ≡ a
+abs-not_negative n a below s = ap unsigned_abs (signed_value-not_negative n a below s)
 
-pub abs-high : (n a : ℕ) → 2 ^ (n - 1) ≤ a → a < 2 ^ n → unsigned_abs (signed_value (of n a)) ≡ 2 ^ n - 1 - a + 1
-abs-high n a h below =
-    let e : suc (2 ^ n - suc a) ≡ 2 ^ n - 1 - a + 1 = omega arith in
-    ap unsigned_abs (signed_value-high n a h below) ∙ e
+pub abs-negative : (n a : ℕ) → a < 2 ^ n → int_lt (signed_value (bit_value n a)) (pos 0) ≡ true → unsigned_abs (signed_value (bit_value n a)) ≡ (2 ^ n + 0 - a) % 2 ^ n
+abs-negative n a below s =
+    let e : nat_le (2 ^ (n - 1)) a ≡ true = nat_le-top n a below ∙ s in
+    let h : 2 ^ (n - 1) ≤ a = grind (arith, nat_tests) in
+    let half : 0 < 2 ^ (n - 1) = pow_pos (n - 1) in
+    let fits : 2 ^ n + 0 - a < 2 ^ n = omega arith in
+    let d : suc (2 ^ n - suc a) ≡ 2 ^ n + 0 - a = omega arith in
+    ap unsigned_abs (signed_value-negative n a below s) ∙ d ∙ sym (mod-eq_of_lt fits)
+
+-- only 0 has the absolute value 0
+pub abs_nonzero : (n a r : ℕ) → a < 2 ^ n → r ≡ unsigned_abs (signed_value (bit_value n a)) → 0 < a → 0 < r
+abs_nonzero n a r below er h =
+    let low : a < 2 ^ (n - 1) → 0 < r =
+    λ (l : a < 2 ^ (n - 1)).
+    let e : r ≡ a = er ∙ ap unsigned_abs (signed_value-low n a l) in omega arith
+    in
+    let high : 2 ^ (n - 1) ≤ a → 0 < r =
+    λ (l : 2 ^ (n - 1) ≤ a).
+    let e : r ≡ suc (2 ^ n - suc a) = er ∙ ap unsigned_abs (signed_value-high n a l below) in omega arith
+    in
+    elim (cases_lt a (2 ^ (n - 1))) [ inl h ↦ low h | inr h ↦ high h ]
 
 -- a shift to the right, rounded down
-pub shifted-not_negative : (n a k : ℕ) → a < 2 ^ n → int_lt (signed_value (of n a)) (pos 0) ≡ false → wrapped n (int_div_euclid (signed_value (of n a)) (pos (2 ^ k))) ≡ a / 2 ^ k
+pub shifted-not_negative : (n a k : ℕ) → a < 2 ^ n → int_lt (signed_value (bit_value n a)) (pos 0) ≡ false → wrapped n (int_div_euclid (signed_value (bit_value n a)) (pos (2 ^ k))) ≡ a / 2 ^ k
 shifted-not_negative n a k below s =
     let le : a / 2 ^ k ≤ a = shr_le a k in
     let fits : a / 2 ^ k < 2 ^ n = omega arith in
     ap (λ (z : ℤ). wrapped n (int_div_euclid z (pos (2 ^ k)))) (signed_value-not_negative n a below s) ∙ wrapped-pos n (a / 2 ^ k) fits
 
-pub shifted-negative : (n a k : ℕ) → a < 2 ^ n → int_lt (signed_value (of n a)) (pos 0) ≡ true → wrapped n (int_div_euclid (signed_value (of n a)) (pos (2 ^ k))) ≡ 2 ^ n - 1 - (2 ^ n - 1 - a) / 2 ^ k
+pub shifted-negative : (n a k : ℕ) → a < 2 ^ n → int_lt (signed_value (bit_value n a)) (pos 0) ≡ true → wrapped n (int_div_euclid (signed_value (bit_value n a)) (pos (2 ^ k))) ≡ 2 ^ n - 1 - (2 ^ n - 1 - a) / 2 ^ k
 shifted-negative n a k below s =
     let e : 2 ^ n - suc a ≡ 2 ^ n - 1 - a = omega arith in
-    let value : signed_value (of n a) ≡ negsuc (2 ^ n - 1 - a) = signed_value-negative n a below s ∙ ap negsuc e in
+    let value : signed_value (bit_value n a) ≡ negsuc (2 ^ n - 1 - a) = signed_value-negative n a below s ∙ ap negsuc e in
     let le : (2 ^ n - 1 - a) / 2 ^ k ≤ 2 ^ n - 1 - a = shr_le (2 ^ n - 1 - a) k in
     let fits : (2 ^ n - 1 - a) / 2 ^ k < 2 ^ n = omega arith in
     ap (λ (z : ℤ). wrapped n (int_div_euclid z (pos (2 ^ k)))) value ∙ wrapped-negsuc n ((2 ^ n - 1 - a) / 2 ^ k) fits
 
 -- more bits
-pub extended-not_negative : (n w a : ℕ) → n ≤ w → a < 2 ^ n → int_lt (signed_value (of n a)) (pos 0) ≡ false → wrapped w (signed_value (of n a)) ≡ a
+pub extended-not_negative : (n w a : ℕ) → n ≤ w → a < 2 ^ n → int_lt (signed_value (bit_value n a)) (pos 0) ≡ false → wrapped w (signed_value (bit_value n a)) ≡ a
 extended-not_negative n w a le below s =
     ap (wrapped w) (signed_value-not_negative n a below s) ∙ wrapped-pos w a (fits_wider a n w below le)
 
-pub extended-negative : (n w a : ℕ) → n ≤ w → a < 2 ^ n → int_lt (signed_value (of n a)) (pos 0) ≡ true → wrapped w (signed_value (of n a)) ≡ 2 ^ w - 1 - (2 ^ n - 1 - a)
+pub extended-negative : (n w a : ℕ) → n ≤ w → a < 2 ^ n → int_lt (signed_value (bit_value n a)) (pos 0) ≡ true → wrapped w (signed_value (bit_value n a)) ≡ 2 ^ w - 1 - (2 ^ n - 1 - a)
 extended-negative n w a le below s =
     let e : 2 ^ n - suc a ≡ 2 ^ n - 1 - a = omega arith in
-    let value : signed_value (of n a) ≡ negsuc (2 ^ n - 1 - a) = signed_value-negative n a below s ∙ ap negsuc e in
+    let value : signed_value (bit_value n a) ≡ negsuc (2 ^ n - 1 - a) = signed_value-negative n a below s ∙ ap negsuc e in
     let low : 2 ^ n - 1 - a < 2 ^ n = omega arith in
     ap (wrapped w) value ∙ wrapped-negsuc w (2 ^ n - 1 - a) (fits_wider (2 ^ n - 1 - a) n w low le)
 
@@ -163,13 +176,13 @@ beq-other false true h e = cc
 beq-other false false h e = cc
 
 -- the order: of two signs that are equal by the numbers, and else by the sign
-int_lt-both : (n a b : ℕ) → a < 2 ^ n → b < 2 ^ n → (s : Bool) → int_lt (signed_value (of n a)) (pos 0) ≡ s → int_lt (signed_value (of n b)) (pos 0) ≡ s → int_lt (signed_value (of n a)) (signed_value (of n b)) ≡ nat_lt a b
+int_lt-both : (n a b : ℕ) → a < 2 ^ n → b < 2 ^ n → (s : Bool) → int_lt (signed_value (bit_value n a)) (pos 0) ≡ s → int_lt (signed_value (bit_value n b)) (pos 0) ≡ s → int_lt (signed_value (bit_value n a)) (signed_value (bit_value n b)) ≡ nat_lt a b
 int_lt-both n a b p q true sa sb =
     let e : nat_lt (2 ^ n - suc b) (2 ^ n - suc a) ≡ nat_lt a b = grind (arith, nat_tests) in
     rw (signed_value-negative n a p sa, signed_value-negative n b q sb) e
 int_lt-both n a b p q false sa sb = rw (signed_value-not_negative n a p sa, signed_value-not_negative n b q sb) refl
 
-pub int_lt-same : (n a b : ℕ) (s t : Bool) → a < 2 ^ n → b < 2 ^ n → s ≡ int_lt (signed_value (of n a)) (pos 0) → t ≡ int_lt (signed_value (of n b)) (pos 0) → beq s t ≡ true → nat_lt a b ≡ int_lt (signed_value (of n a)) (signed_value (of n b))
+pub int_lt-same : (n a b : ℕ) (s t : Bool) → a < 2 ^ n → b < 2 ^ n → s ≡ int_lt (signed_value (bit_value n a)) (pos 0) → t ≡ int_lt (signed_value (bit_value n b)) (pos 0) → beq s t ≡ true → nat_lt a b ≡ int_lt (signed_value (bit_value n a)) (signed_value (bit_value n b))
 int_lt-same n a b s t p q es et same =
     sym (int_lt-both n a b p q s (sym es) (sym et ∙ sym (beq-same s t same)))
 
@@ -225,15 +238,15 @@ remainder-negative n x y p q r s ep eq fits er =
     let below : unsigned_abs x % unsigned_abs y < 2 ^ n = omega arith in
     ap (λ (k : ℕ). (2 ^ n + 0 - k) % 2 ^ n) e ∙ sym (wrapped-int_rem-neg n x y s below)
 
-pub signed_quotient-nonzero : (n a b : ℕ) → 0 < b → signed_quotient (of n a) (of n b) ≡ wrapped n (int_div (signed_value (of n a)) (signed_value (of n b)))
+pub signed_quotient-nonzero : (n a b : ℕ) → 0 < b → signed_quotient (bit_value n a) (bit_value n b) ≡ wrapped n (int_div (signed_value (bit_value n a)) (signed_value (bit_value n b)))
 unfolding signed_quotient
 signed_quotient-nonzero n a b h = let e : (b == 0) ≡ false = grind (arith, nat_tests) in rw e refl
 
-pub signed_remainder-nonzero : (n a b : ℕ) → 0 < b → signed_remainder (of n a) (of n b) ≡ wrapped n (int_rem (signed_value (of n a)) (signed_value (of n b)))
+pub signed_remainder-nonzero : (n a b : ℕ) → 0 < b → signed_remainder (bit_value n a) (bit_value n b) ≡ wrapped n (int_rem (signed_value (bit_value n a)) (signed_value (bit_value n b)))
 unfolding signed_remainder
 signed_remainder-nonzero n a b h = let e : (b == 0) ≡ false = grind (arith, nat_tests) in rw e refl
 
-pub long_product-signed : (n a b : ℕ) → long_product (of n a) (of n b) true ≡ wrapped (2 * n) (signed_value (of n a) *ℤ signed_value (of n b))
+pub long_product-signed : (n a b : ℕ) → long_product (bit_value n a) (bit_value n b) true ≡ wrapped (2 * n) (signed_value (bit_value n a) *ℤ signed_value (bit_value n b))
 unfolding long_product
 long_product-signed n a b = refl
 
@@ -243,3 +256,12 @@ product_fits n a b p q =
     let e : 2 * n ≡ n + n = omega arith in
     let split : 2 ^ (2 * n) ≡ 2 ^ n * 2 ^ n = ap (λ (k : ℕ). 2 ^ k) e ∙ pow-add 2 n n in
     rw split (mul-lt a b (2 ^ n) (2 ^ n) p q)
+
+-- where the divisor is 0
+pub signed_quotient-zero : (n a b : ℕ) → b ≡ 0 → signed_quotient (bit_value n a) (bit_value n b) ≡ 2 ^ n - 1
+unfolding signed_quotient
+signed_quotient-zero n a b h = let e : (b == 0) ≡ true = grind (arith, nat_tests) in rw e refl
+
+pub signed_remainder-zero : (n a b : ℕ) → b ≡ 0 → signed_remainder (bit_value n a) (bit_value n b) ≡ a
+unfolding signed_remainder
+signed_remainder-zero n a b h = let e : (b == 0) ≡ true = grind (arith, nat_tests) in rw e refl

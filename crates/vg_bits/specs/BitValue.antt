@@ -9,6 +9,10 @@ pub record BitValue : Type 0 where
   pub width : ℕ
   pub number : ℕ
 
+-- the value of this width and number
+abbrev pub bit_value : ℕ → ℕ → BitValue
+bit_value width number = record { width = width; number = number }
+
 -- what every value of the program keeps
 pub record IsBitValue (v : BitValue) : Type 0 where
   pub wide : 0 < v.width

@@ -3,13 +3,17 @@ ghost use Rattle.vg_bits.specs.BitValue as bits;
 
 use crate::Width;
 use crate::signed::{
-    is_negative, is_signed_below, signed_extended, signed_product, signed_quotient,
-    signed_remainder, signed_right, unsigned_product,
+    is_signed_below, signed_extended, signed_product, signed_quotient, signed_remainder,
+    total_signed_right, unsigned_product,
 };
-use crate::words::{difference, left, low_bits, ones, product, quotient, remainder, right, sum};
+use crate::words::{
+    difference, left, low_bits, ones, product, right, sum, total_left, total_quotient,
+    total_remainder, total_right,
+};
 use std::marker::Model;
 
-/// A value of 1 to 128 bits: a width, and a number below 2 to that width.
+/// A value of 1 to 128 bits: a width, and a number below 2 to that width. The derived order goes by
+/// the width first.
 #[derive(Clone, Copy, PartialEq, Eq, PartialOrd, Ord, Hash, Debug)]
 pub struct Bits {
     width: Width,
@@ -109,6 +113,24 @@ impl Bits {
         Bits::of(self.width, product(self.value, o.value, n))
     }
 
+    /// The product at double width: of the signed numbers where `signed` is set, and else of the
+    /// unsigned ones.
+    #[inline(always)]
+    #[tactic(auto, using(std::proofs::lemmas::Bool::Decides::nat_tests), unfolding(crate::specs::BitValue::long_product))]
+    pub fn mul_long(self, o: Bits, signed: bool) -> Bits
+        requires same { self.width ≡ o.width }
+        requires room { self.width ≤ 64 }
+        ensures { result ≡ bits.mul_long self o signed }
+    {
+        let n = self.width.bits();
+        let width = Width::of(2 * n);
+        if signed {
+            Bits::of(width, signed_product(self.value, o.value, n))
+        } else {
+            Bits::of(width, unsigned_product(self.value, o.value, n))
+        }
+    }
+
     /// Zero minus the number, which wraps.
     #[inline(always)]
     pub fn neg(self) -> Bits
@@ -116,6 +138,50 @@ impl Bits {
     {
         let n = self.width.bits();
         Bits::of(self.width, difference(0, self.value, n))
+    }
+
+    /// The quotient of the unsigned numbers, all ones where the divisor is 0.
+    #[inline(always)]
+    #[tactic(auto, using(std::proofs::lemmas::Bool::Decides::nat_tests), unfolding(crate::specs::BitValue::unsigned_quotient))]
+    pub fn udiv(self, o: Bits) -> Bits
+        requires { self.width ≡ o.width }
+        ensures { result ≡ bits.udiv self o }
+    {
+        let n = self.width.bits();
+        Bits::of(self.width, total_quotient(self.value, o.value, n))
+    }
+
+    /// The remainder of the unsigned numbers, the dividend where the divisor is 0.
+    #[inline(always)]
+    #[tactic(auto, using(std::proofs::lemmas::Bool::Decides::nat_tests), unfolding(crate::specs::BitValue::unsigned_remainder))]
+    pub fn urem(self, o: Bits) -> Bits
+        requires { self.width ≡ o.width }
+        ensures { result ≡ bits.urem self o }
+    {
+        let n = self.width.bits();
+        Bits::of(self.width, total_remainder(self.value, o.value, n))
+    }
+
+    /// The quotient of the signed numbers, towards zero: all ones where the divisor is 0, and the
+    /// least number where that is divided by -1.
+    #[inline(always)]
+    pub fn sdiv(self, o: Bits) -> Bits
+        requires { self.width ≡ o.width }
+        ensures { result ≡ bits.sdiv self o }
+    {
+        let n = self.width.bits();
+        Bits::of(self.width, signed_quotient(self.value, o.value, n))
+    }
+
+    /// The remainder of the signed numbers, with the sign of the dividend: the dividend where the
+    /// divisor is 0.
+    #[inline(always)]
+    pub fn srem(self, o: Bits) -> Bits
+        requires { self.width ≡ o.width }
+        ensures { result ≡ bits.srem self o }
+    {
+        let n = self.width.bits();
+        Bits::of(self.width, signed_remainder(self.value, o.value, n))
     }
 
     /// The bits that are set in both.
@@ -155,36 +221,6 @@ impl Bits {
         Bits::of(self.width, ones(self.width.bits()) - self.value)
     }
 
-    /// The quotient of the unsigned numbers, all ones where the divisor is 0.
-    #[inline(always)]
-    #[tactic(auto, using(std::proofs::lemmas::Bool::Decides::nat_tests), unfolding(crate::specs::BitValue::unsigned_quotient))]
-    pub fn udiv(self, o: Bits) -> Bits
-        requires { self.width ≡ o.width }
-        ensures { result ≡ bits.udiv self o }
-    {
-        let n = self.width.bits();
-        if o.value == 0 {
-            Bits::of(self.width, ones(n))
-        } else {
-            Bits::of(self.width, quotient(self.value, o.value, n))
-        }
-    }
-
-    /// The remainder of the unsigned numbers, the dividend where the divisor is 0.
-    #[inline(always)]
-    #[tactic(auto, using(std::proofs::lemmas::Bool::Decides::nat_tests), unfolding(crate::specs::BitValue::unsigned_remainder))]
-    pub fn urem(self, o: Bits) -> Bits
-        requires { self.width ≡ o.width }
-        ensures { result ≡ bits.urem self o }
-    {
-        let n = self.width.bits();
-        if o.value == 0 {
-            self
-        } else {
-            Bits::of(self.width, remainder(self.value, o.value, n))
-        }
-    }
-
     /// Shifts to the left by the number of `o`: 0 where that is the width or more.
     #[inline(always)]
     #[tactic(auto, using(std::proofs::lemmas::Bool::Decides::nat_tests), unfolding(crate::specs::BitValue::shifted_left))]
@@ -192,11 +228,7 @@ impl Bits {
         ensures { result ≡ bits.shl self o }
     {
         let n = self.width.bits();
-        if o.value < n as u128 {
-            Bits::of(self.width, left(self.value, o.value as u8, n))
-        } else {
-            Bits::of(self.width, 0)
-        }
+        Bits::of(self.width, total_left(self.value, o.value, n))
     }
 
     /// Shifts to the right by the number of `o`: 0 where that is the width or more.
@@ -206,11 +238,18 @@ impl Bits {
         ensures { result ≡ bits.shr self o }
     {
         let n = self.width.bits();
-        if o.value < n as u128 {
-            Bits::of(self.width, right(self.value, o.value as u8, n))
-        } else {
-            Bits::of(self.width, 0)
-        }
+        Bits::of(self.width, total_right(self.value, o.value, n))
+    }
+
+    /// Shifts to the right by the number of `o`, with copies of the sign bit: all sign bits where
+    /// the number is the width or more.
+    #[inline(always)]
+    #[tactic(auto, using(std::proofs::lemmas::Bool::Decides::nat_tests), unfolding(crate::specs::BitValue::signed_shifted_right))]
+    pub fn sar(self, o: Bits) -> Bits
+        ensures { result ≡ bits.sar self o }
+    {
+        let n = self.width.bits();
+        Bits::of(self.width, total_signed_right(self.value, o.value, n))
     }
 
     /// Whether the two are equal.
@@ -231,6 +270,15 @@ impl Bits {
         self.value < o.value
     }
 
+    /// Whether the signed number is below that of `o`.
+    #[inline(always)]
+    pub fn slt(self, o: Bits) -> bool
+        requires { self.width ≡ o.width }
+        ensures { result ≡ bits.slt self o }
+    {
+        is_signed_below(self.value, o.value, self.width.bits())
+    }
+
     /// The same number at a width that is not below this one.
     #[inline(always)]
     pub fn extend(self, w: Width) -> Bits
@@ -238,6 +286,15 @@ impl Bits {
         ensures { result ≡ bits.extend self w }
     {
         Bits::of(w, self.value)
+    }
+
+    /// The same signed number at a width that is not below this one.
+    #[inline(always)]
+    pub fn sign_extend(self, w: Width) -> Bits
+        requires { self.width ≤ w }
+        ensures { result ≡ bits.sign_extend self w }
+    {
+        Bits::of(w, signed_extended(self.value, self.width.bits(), w.bits()))
     }
 
     /// The low bits, at a width that is not above this one.
@@ -270,90 +327,5 @@ impl Bits {
     {
         let n = self.width.bits();
         Bits::cut_to(Width::of(hi - lo + 1), right(self.value, lo, n))
-    }
-
-    /// The quotient of the signed numbers, towards zero: all ones where the divisor is 0, and the
-    /// least number where that is divided by -1.
-    #[inline(always)]
-    #[tactic(auto, using(std::proofs::lemmas::Bool::Decides::nat_tests), unfolding(crate::specs::BitValue::signed_quotient))]
-    pub fn sdiv(self, o: Bits) -> Bits
-        requires { self.width ≡ o.width }
-        ensures { result ≡ bits.sdiv self o }
-    {
-        let n = self.width.bits();
-        if o.value == 0 {
-            Bits::of(self.width, ones(n))
-        } else {
-            Bits::of(self.width, signed_quotient(self.value, o.value, n))
-        }
-    }
-
-    /// The remainder of the signed numbers, with the sign of the dividend: the dividend where the
-    /// divisor is 0.
-    #[inline(always)]
-    #[tactic(auto, using(std::proofs::lemmas::Bool::Decides::nat_tests), unfolding(crate::specs::BitValue::signed_remainder))]
-    pub fn srem(self, o: Bits) -> Bits
-        requires { self.width ≡ o.width }
-        ensures { result ≡ bits.srem self o }
-    {
-        let n = self.width.bits();
-        if o.value == 0 {
-            self
-        } else {
-            Bits::of(self.width, signed_remainder(self.value, o.value, n))
-        }
-    }
-
-    /// The product at double width: of the signed numbers where `signed` is set, and else of the
-    /// unsigned ones.
-    #[inline(always)]
-    #[tactic(auto, using(std::proofs::lemmas::Bool::Decides::nat_tests), unfolding(crate::specs::BitValue::long_product))]
-    pub fn mul_long(self, o: Bits, signed: bool) -> Bits
-        requires same { self.width ≡ o.width }
-        requires room { self.width ≤ 64 }
-        ensures { result ≡ bits.mul_long self o signed }
-    {
-        let n = self.width.bits();
-        let width = Width::of(2 * n);
-        if signed {
-            Bits::of(width, signed_product(self.value, o.value, n))
-        } else {
-            Bits::of(width, unsigned_product(self.value, o.value, n))
-        }
-    }
-
-    /// Shifts to the right by the number of `o`, with copies of the sign bit: all sign bits where
-    /// the number is the width or more.
-    #[inline(always)]
-    #[tactic(auto, using(std::proofs::lemmas::Bool::Decides::nat_tests), unfolding(crate::specs::BitValue::signed_shifted_right))]
-    pub fn sar(self, o: Bits) -> Bits
-        ensures { result ≡ bits.sar self o }
-    {
-        let n = self.width.bits();
-        if o.value < n as u128 {
-            Bits::of(self.width, signed_right(self.value, o.value as u8, n))
-        } else if is_negative(self.value, n) {
-            Bits::of(self.width, ones(n))
-        } else {
-            Bits::of(self.width, 0)
-        }
-    }
-
-    /// Whether the signed number is below that of `o`.
-    #[inline(always)]
-    pub fn slt(self, o: Bits) -> bool
-        requires { self.width ≡ o.width }
-        ensures { result ≡ bits.slt self o }
-    {
-        is_signed_below(self.value, o.value, self.width.bits())
-    }
-
-    /// The same signed number at a width that is not below this one.
-    #[inline(always)]
-    pub fn sign_extend(self, w: Width) -> Bits
-        requires { self.width ≤ w }
-        ensures { result ≡ bits.sign_extend self w }
-    {
-        Bits::of(w, signed_extended(self.value, self.width.bits(), w.bits()))
     }
 }

@@ -2,7 +2,7 @@ ghost use Rattle.std.specs.Prelude.{◌≡◌, ℕ, ◌+◌, ◌-◌, ◌*◌, �
 ghost use Rattle.std.specs.Int.{int_div_euclid};
 ghost use Rattle.vg_bits.specs.BitValue as bits;
 
-use crate::words::{difference, narrow, ones, quotient, remainder, right, top_bit};
+use crate::words::{difference, narrow, ones, quotient, remainder, right};
 
 /// Whether the highest of the `n` bits is set.
 #[inline(always)]
@@ -10,9 +10,13 @@ pub(crate) fn is_negative(a: u128, n: u8) -> bool
     requires least { 0 < n }
     requires most { n ≤ 128 }
     requires fits { a < 2 ^ n }
-    ensures { result ≡ int_lt (bits.signed_value (record { width = n; number = a })) (pos 0) }
+    ensures { result ≡ int_lt (bits.signed_value (bits.bit_value n a)) (pos 0) }
 {
-    a >= top_bit(n)
+    if n <= 64 {
+        narrow(a, n) >= 1u64 << (n - 1)
+    } else {
+        a >= 1u128 << (n - 1)
+    }
 }
 
 /// The absolute value of the signed number.
@@ -21,24 +25,30 @@ pub(crate) fn magnitude(a: u128, n: u8) -> u128
     requires least { 0 < n }
     requires most { n ≤ 128 }
     requires fits { a < 2 ^ n }
-    ensures value { result ≡ unsigned_abs (bits.signed_value (record { width = n; number = a })) }
+    ensures value { result ≡ unsigned_abs (bits.signed_value (bits.bit_value n a)) }
     ensures fits { result < 2 ^ n }
     ensures nonzero { 0 < a → 0 < result }
 {
-    if a < top_bit(n) { a } else { ones(n) - a + 1 }
+    if is_negative(a, n) {
+        difference(0, a, n)
+    } else {
+        a
+    }
 }
 
-/// The quotient of the signed numbers, towards zero.
+/// The quotient of the signed numbers, towards zero: all ones where `b` is 0.
 #[inline(never)]
 pub(crate) fn signed_quotient(a: u128, b: u128, n: u8) -> u128
     requires least { 0 < n }
     requires most { n ≤ 128 }
     requires dividend { a < 2 ^ n }
     requires divisor { b < 2 ^ n }
-    requires nonzero { 0 < b }
-    ensures value { result ≡ bits.signed_quotient (record { width = n; number = a }) (record { width = n; number = b }) }
+    ensures value { result ≡ bits.signed_quotient (bits.bit_value n a) (bits.bit_value n b) }
     ensures fits { result < 2 ^ n }
 {
+    if b == 0 {
+        return ones(n);
+    }
     let whole = quotient(magnitude(a, n), magnitude(b, n), n);
     if is_negative(a, n) == is_negative(b, n) {
         whole
@@ -47,17 +57,19 @@ pub(crate) fn signed_quotient(a: u128, b: u128, n: u8) -> u128
     }
 }
 
-/// The remainder of the signed numbers, with the sign of `a`.
+/// The remainder of the signed numbers, with the sign of `a`: `a` where `b` is 0.
 #[inline(never)]
 pub(crate) fn signed_remainder(a: u128, b: u128, n: u8) -> u128
     requires least { 0 < n }
     requires most { n ≤ 128 }
     requires dividend { a < 2 ^ n }
     requires divisor { b < 2 ^ n }
-    requires nonzero { 0 < b }
-    ensures value { result ≡ bits.signed_remainder (record { width = n; number = a }) (record { width = n; number = b }) }
+    ensures value { result ≡ bits.signed_remainder (bits.bit_value n a) (bits.bit_value n b) }
     ensures fits { result < 2 ^ n }
 {
+    if b == 0 {
+        return a;
+    }
     let rest = remainder(magnitude(a, n), magnitude(b, n), n);
     if is_negative(a, n) {
         difference(0, rest, n)
@@ -73,7 +85,7 @@ pub(crate) fn signed_product(a: u128, b: u128, n: u8) -> u128
     requires most { n ≤ 64 }
     requires left { a < 2 ^ n }
     requires right { b < 2 ^ n }
-    ensures value { result ≡ bits.long_product (record { width = n; number = a }) (record { width = n; number = b }) true }
+    ensures value { result ≡ bits.long_product (bits.bit_value n a) (bits.bit_value n b) true }
     ensures fits { result < 2 ^ (2 * n) }
 {
     let whole = unsigned_product(magnitude(a, n), magnitude(b, n), n);
@@ -103,13 +115,35 @@ pub(crate) fn signed_right(a: u128, k: u8, n: u8) -> u128
     requires most { n ≤ 128 }
     requires fits { a < 2 ^ n }
     requires inside { k < n }
-    ensures value { result ≡ bits.wrapped n (int_div_euclid (bits.signed_value (record { width = n; number = a })) (pos (2 ^ k))) }
+    ensures value { result ≡ bits.wrapped n
+        (int_div_euclid (bits.signed_value (bits.bit_value n a)) (pos (2 ^ k))) }
     ensures fits { result < 2 ^ n }
 {
     if is_negative(a, n) {
         ones(n) - right(ones(n) - a, k, n)
     } else {
         right(a, k, n)
+    }
+}
+
+/// The `n` bits of `a`, `k` places to the right, for any `k`, with copies of the highest bit above
+/// them.
+#[inline(always)]
+pub(crate) fn total_signed_right(a: u128, k: u128, n: u8) -> u128
+    requires least { 0 < n }
+    requires most { n ≤ 128 }
+    requires fits { a < 2 ^ n }
+    ensures inside { k < n → result ≡ bits.wrapped n
+        (int_div_euclid (bits.signed_value (bits.bit_value n a)) (pos (2 ^ k))) }
+    ensures outside { n ≤ k → result ≡ bits.sign_bits (bits.bit_value n a) }
+    ensures fits { result < 2 ^ n }
+{
+    if k < n as u128 {
+        signed_right(a, k as u8, n)
+    } else if is_negative(a, n) {
+        ones(n)
+    } else {
+        0
     }
 }
 
@@ -120,7 +154,7 @@ pub(crate) fn signed_extended(a: u128, n: u8, w: u8) -> u128
     requires most { w ≤ 128 }
     requires wider { n ≤ w }
     requires fits { a < 2 ^ n }
-    ensures value { result ≡ bits.wrapped w (bits.signed_value (record { width = n; number = a })) }
+    ensures value { result ≡ bits.wrapped w (bits.signed_value (bits.bit_value n a)) }
     ensures fits { result < 2 ^ w }
 {
     if is_negative(a, n) {
@@ -137,7 +171,7 @@ pub(crate) fn is_signed_below(a: u128, b: u128, n: u8) -> bool
     requires most { n ≤ 128 }
     requires left { a < 2 ^ n }
     requires right { b < 2 ^ n }
-    ensures { result ≡ int_lt (bits.signed_value (record { width = n; number = a })) (bits.signed_value (record { width = n; number = b })) }
+    ensures { result ≡ bits.slt (bits.bit_value n a) (bits.bit_value n b) }
 {
     let negative = is_negative(a, n);
     if negative == is_negative(b, n) {

@@ -46,20 +46,6 @@ pub(crate) fn narrow(v: u128, n: u8) -> u64
     v as u64
 }
 
-/// The number whose only one is the highest of `n` bits.
-#[inline(always)]
-pub(crate) fn top_bit(n: u8) -> u128
-    requires least { 0 < n }
-    requires most { n ≤ 128 }
-    ensures { result ≡ 2 ^ (n - 1) }
-{
-    if n <= 64 {
-        (1u64 << (n - 1)) as u128
-    } else {
-        1u128 << (n - 1)
-    }
-}
-
 /// `a + b` in `n` bits.
 #[inline(always)]
 #[tactic(auto, using(crate::proofs::Modular::mod_mod))]
@@ -158,5 +144,63 @@ pub(crate) fn right(a: u128, k: u8, n: u8) -> u128
         (narrow(a, n) >> k) as u128
     } else {
         a >> k
+    }
+}
+
+/// `a / b`, all ones where `b` is 0.
+#[inline(always)]
+pub(crate) fn total_quotient(a: u128, b: u128, n: u8) -> u128
+    requires least { 0 < n }
+    requires most { n ≤ 128 }
+    requires dividend { a < 2 ^ n }
+    requires divisor { b < 2 ^ n }
+    ensures zero { b ≡ 0 → result ≡ 2 ^ n - 1 }
+    ensures whole { 0 < b → result ≡ a / b }
+    ensures fits { result < 2 ^ n }
+{
+    if b == 0 { ones(n) } else { quotient(a, b, n) }
+}
+
+/// `a % b`, and `a` where `b` is 0.
+#[inline(always)]
+pub(crate) fn total_remainder(a: u128, b: u128, n: u8) -> u128
+    requires dividend { a < 2 ^ n }
+    requires divisor { b < 2 ^ n }
+    ensures zero { b ≡ 0 → result ≡ a }
+    ensures rest { 0 < b → result ≡ a % b }
+    ensures fits { result < 2 ^ n }
+{
+    if b == 0 { a } else { remainder(a, b, n) }
+}
+
+/// The `n` bits of `a`, `k` places to the left, for any `k`.
+#[inline(always)]
+pub(crate) fn total_left(a: u128, k: u128, n: u8) -> u128
+    requires most { n ≤ 128 }
+    requires fits { a < 2 ^ n }
+    ensures inside { k < n → result ≡ (a * 2 ^ k) % 2 ^ n }
+    ensures outside { n ≤ k → result ≡ 0 }
+    ensures fits { result < 2 ^ n }
+{
+    if k < n as u128 {
+        left(a, k as u8, n)
+    } else {
+        0
+    }
+}
+
+/// The `n` bits of `a`, `k` places to the right, for any `k`.
+#[inline(always)]
+pub(crate) fn total_right(a: u128, k: u128, n: u8) -> u128
+    requires most { n ≤ 128 }
+    requires fits { a < 2 ^ n }
+    ensures inside { k < n → result ≡ a / 2 ^ k }
+    ensures outside { n ≤ k → result ≡ 0 }
+    ensures fits { result < 2 ^ n }
+{
+    if k < n as u128 {
+        right(a, k as u8, n)
+    } else {
+        0
     }
 }

@@ -1,13 +1,11 @@
-use Rattle.std.proofs.Common.{◌≡◌, ◌-◌, ◌+◌, ◌^◌, ◌<◌, ◌≤◌, arith, sym, ◌∙◌}
-use Rattle.vg_bits.proofs.SignedValue.{abs-low, abs-high}
+use Rattle.std.proofs.Common.{sym, ◌∙◌}
+use Rattle.vg_bits.proofs.SignedValue.{abs-negative, abs-not_negative}
 use Rattle.vg_bits.proofs.signed.magnitude.Goals as goal
 
-pub returns-then-a-top_bit-clause-value : goal.returns-then-a-top_bit-clause-value
-returns-then-a-top_bit-clause-value c =
-    let low : c.args.a < 2 ^ (c.args.n - 1) = omega arith in sym (abs-low c.args.n c.args.a low)
+pub returns-then-is_negative-clause-value : goal.returns-then-is_negative-clause-value
+returns-then-is_negative-clause-value c =
+    c.difference.ensures ∙ sym (abs-negative c.args.n c.args.a c.requires.fits (sym c.is_negative.ensures ∙ c.if-is_negative.true))
 
-pub returns-else-a-top_bit-clause-value : goal.returns-else-a-top_bit-clause-value
-returns-else-a-top_bit-clause-value c =
-    let high : 2 ^ (c.args.n - 1) ≤ c.args.a = omega arith in
-    let e : c.ones.result - c.args.a + 1 ≡ 2 ^ c.args.n - 1 - c.args.a + 1 = omega arith in
-    e ∙ sym (abs-high c.args.n c.args.a high c.requires.fits)
+pub returns-else-is_negative-clause-value : goal.returns-else-is_negative-clause-value
+returns-else-is_negative-clause-value c =
+    sym (abs-not_negative c.args.n c.args.a c.requires.fits (sym c.is_negative.ensures ∙ c.if-is_negative.false))

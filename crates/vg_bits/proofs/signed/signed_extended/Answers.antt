@@ -1,4 +1,4 @@
-use Rattle.std.proofs.Common.{sym, ◌∙◌, ◌≡◌, ◌≤◌, ◌<◌, ◌-◌, ◌^◌, arith}
+use Rattle.std.proofs.Common.{sym, ◌∙◌, ◌≡◌, ◌≤◌, ◌-◌, ◌^◌, arith}
 use Rattle.std.proofs.Math.Nat.{pow-le-pow_right}
 use Rattle.vg_bits.proofs.Modular.{fits_wider}
 use Rattle.vg_bits.proofs.SignedValue.{extended-negative, extended-not_negative}

@@ -1,4 +1,4 @@
-use Rattle.std.proofs.Common.{sym, ◌∙◌, ◌≡◌, ◌-◌, ◌^◌, ◌/◌, arith, ap, ℕ}
+use Rattle.std.proofs.Common.{sym, ◌∙◌, ◌≡◌, ◌-◌, ◌^◌, ◌/◌, ap, ℕ}
 use Rattle.vg_bits.proofs.SignedValue.{shifted-negative, shifted-not_negative}
 use Rattle.vg_bits.proofs.signed.signed_right.Goals as goal
 

@@ -1,4 +1,4 @@
-use Rattle.std.proofs.Common.{◌<◌, ◌*◌, ◌^◌, arith}
+use Rattle.std.proofs.Common.{◌<◌, ◌^◌, arith}
 use Rattle.vg_bits.proofs.SignedValue.{product_fits}
 use Rattle.vg_bits.proofs.signed.unsigned_product.Goals as goal
 

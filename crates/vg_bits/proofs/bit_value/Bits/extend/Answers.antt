@@ -1,4 +1,4 @@
-use Rattle.std.proofs.Common.{◌≡◌, ◌≤◌, ap, arith}
+use Rattle.std.proofs.Common.{◌≡◌, ap, arith}
 use Rattle.vg_bits.specs.BitValue.{BitValue}
 use Rattle.vg_bits.proofs.Modular.{fits_wider}
 use Rattle.vg_bits.proofs.bit_value.Bits.extend.Goals as goal

@@ -1,4 +1,4 @@
-use Rattle.std.proofs.Common.{◌≤◌, ◌+◌, arith}
+use Rattle.std.proofs.Common.{◌+◌, arith}
 use Rattle.vg_bits.proofs.Modular.{fits_wider}
 use Rattle.vg_bits.proofs.bit_value.Bits.join.Goals as goal
 
