@@ -1,3 +1,4 @@
 pub mod Files
 pub mod FormTyping
 pub mod FormWrites
+pub mod Writing

@@ -1,5 +1,5 @@
 -- What is said of functions that load files, make an answer and write it.
-use Rattle.std.specs.Prelude.{◌≡◌, ◌≢◌, ℕ, ◌<◌, ◌≤◌, ◌⊎◌, ⊤, List, [], ◌∷◌, ◌++◌, take, length, Option, Some, None, Result, Ok, Err, IfOk, IfSome}
+use Rattle.std.specs.Prelude.{◌≡◌, ◌≢◌, ℕ, ◌<◌, ◌≤◌, ◌⊎◌, ⊤, List, [], ◌∷◌, ◌++◌, take, length, min, Option, Some, None, Result, Ok, Err, IfOk, IfSome}
 use Rattle.vg_io.specs.Sink.{append_known}
 use Rattle.vg_top.specs.declared.answer.Answer.{Answer}
 use Rattle.vg_top.specs.declared.fault.Fault.{Fault}
@@ -44,12 +44,25 @@ IsUnanswered status.ReadFault = ⊤
 IsUnanswered status.OutOfMemory = ⊤
 IsUnanswered _ = ⊥
 
--- the status of an answer: one that a fault or want of memory never gives
-abbrev pub IsWhole : Status → Type 0
-IsWhole status.ReadFault = ⊥
-IsWhole status.WriteFault = ⊥
-IsWhole status.OutOfMemory = ⊥
-IsWhole _ = ⊤
+-- the status of an answer that comes of files: no fault, no want of memory and no usage
+abbrev pub IsOfFiles : Status → Type 0
+IsOfFiles status.ReadFault = ⊥
+IsOfFiles status.WriteFault = ⊥
+IsOfFiles status.OutOfMemory = ⊥
+IsOfFiles status.Usage = ⊥
+IsOfFiles _ = ⊤
+
+-- the status of an answer: no fault and no want of memory
+abbrev pub IsFinal : Status → Type 0
+IsFinal status.ReadFault = ⊥
+IsFinal status.WriteFault = ⊥
+IsFinal status.OutOfMemory = ⊥
+IsFinal _ = ⊤
+
+-- the status of an answer to a command: usage exactly where there is none
+abbrev pub IsWhole : Option Command → Status → Type 0
+IsWhole None given = given ≡ status.Usage
+IsWhole (Some _) given = IsOfFiles given
 
 -- The text of an answer is written whole, and the status is the answer's; or the writing was cut short, and a
 -- prefix of the text is written.
@@ -72,10 +85,10 @@ abbrev pub AsksUnder : ℕ → ℕ → Status → Type 0
 AsksUnder all n status.ReadFault = 0 < n
 AsksUnder all n status.WriteFault = ⊤
 AsksUnder all n status.OutOfMemory = ⊤
-AsksUnder all n status.Refused = 0 < n
+AsksUnder all n status.Refused = min 1 all ≤ n
 AsksUnder all n _ = n ≡ all
 
--- A prefix of the names is asked for: at least one where a file was refused or a load failed, and all where the
+-- A prefix of the names is asked for: at least one where a file was refused (or all names, where there are none) or a load failed, and all where the
 -- status is that of a report.
 abbrev pub AsksForNames : List (List ℕ) → List (List ℕ) → List (List ℕ) → Status → Type 0
 AsksForNames names before now result =

@@ -12,10 +12,10 @@ use vg_image::Image;
 use vg_io::Files;
 use vg_isa::Isa;
 
-ghost use Rattle.std.specs.Prelude.{◌≡◌, ◌≤◌, ◌<◌, [], ◌∷◌, IfOk, IfSome, IsErrOf, Some, MatchOption, map};
+ghost use Rattle.std.specs.Prelude.{◌≡◌, ◌≤◌, ◌<◌, [], ◌∷◌, IfOk, IfSome, IsErrOf, Some, MatchOption, length, map, min};
 ghost use Rattle.std.specs.Option.{option_map};
 ghost use Rattle.vg_io.specs.Count.{Rose};
-ghost use Rattle.vg_top.specs.Answering.{AnswersLoads, AsksNames, IsWhole, names_of};
+ghost use Rattle.vg_top.specs.Answering.{AnswersLoads, AsksNames, IsOfFiles, IsWhole, names_of};
 ghost use Rattle.vg_top.specs.Answers.{Answers, CommandAnswers, ImageAnswers, ImageTextAnswers, DescriptionAnswers, RunAnswers, Reports};
 ghost use Rattle.vg_top.specs.Words.{word_bytes, asked_of};
 
@@ -28,7 +28,7 @@ const IMAGE_LIMIT: usize = 8 << 20;
 /// The answer of `run` to the text of an image.
 fn image_text_answer(alloc: Global, isa: &Isa, text: &[u8], bound: u64) -> Result<Answer, AllocError>
     ensures right { IfOk result (λ answer. ImageTextAnswers isa.now bound text.now [] answer.status answer.text.items) }
-    ensures whole { IfOk result (λ answer. IsWhole answer.status) }
+    ensures whole { IfOk result (λ answer. IsOfFiles answer.status) }
 {
     Err(AllocError)
 }
@@ -56,7 +56,7 @@ fn image_answer<F: Files>(
     ensures read { IsErrOf result Fault.Read → Rose (F.faults files.old) (F.faults files.new) }
     ensures kept_faults { F.faults files.old ≤ F.faults files.new }
     ensures asked { AsksNames 1 (image.now ∷ []) (F.asked files.old) (F.asked files.new) result }
-    ensures whole { IfOk result (λ answer. IsWhole answer.status) }
+    ensures whole { IfOk result (λ answer. IsOfFiles answer.status) }
     ensures same { F.held files.new ≡ F.held files.old }
 {
     match load_within(alloc, files, image, IMAGE_LIMIT)? {
@@ -77,7 +77,7 @@ fn description_answer<F: Files>(
     ensures read { IsErrOf result Fault.Read → Rose (F.faults files.old) (F.faults files.new) }
     ensures kept_faults { F.faults files.old ≤ F.faults files.new }
     ensures asked { AsksNames 0 (image.now ∷ []) (F.asked files.old) (F.asked files.new) result }
-    ensures whole { IfOk result (λ answer. IsWhole answer.status) }
+    ensures whole { IfOk result (λ answer. IsOfFiles answer.status) }
     ensures same { F.held files.new ≡ F.held files.old }
 {
     match description_of(alloc, text)? {
@@ -98,7 +98,7 @@ fn run_command<F: Files>(
     ensures read { IsErrOf result Fault.Read → Rose (F.faults files.old) (F.faults files.new) }
     ensures kept_faults { F.faults files.old ≤ F.faults files.new }
     ensures asked { AsksNames 1 (description.now ∷ image.now ∷ []) (F.asked files.old) (F.asked files.new) result }
-    ensures whole { IfOk result (λ answer. IsWhole answer.status) }
+    ensures whole { IfOk result (λ answer. IsOfFiles answer.status) }
     ensures same { F.held files.new ≡ F.held files.old }
 {
     match load_within(alloc, files, description, DESCRIPTION_LIMIT)? {
@@ -112,8 +112,8 @@ pub(crate) fn command_answer<F: Files>(alloc: Global, files: &mut F, command: Op
     ensures told { AnswersLoads (F.held files.old) (F.asked files.old) (F.asked files.new) result (λ held. CommandAnswers held (option_map asked_of command.entry)) }
     ensures read { IsErrOf result Fault.Read → Rose (F.faults files.old) (F.faults files.new) }
     ensures kept_faults { F.faults files.old ≤ F.faults files.new }
-    ensures asked { AsksNames 0 (names_of (option_map asked_of command.entry)) (F.asked files.old) (F.asked files.new) result }
-    ensures whole { IfOk result (λ answer. IsWhole answer.status) }
+    ensures asked { AsksNames (min 1 (length (names_of (option_map asked_of command.entry)))) (names_of (option_map asked_of command.entry)) (F.asked files.old) (F.asked files.new) result }
+    ensures whole { IfOk result (λ answer. IsWhole (option_map asked_of command.entry) answer.status) }
     ensures same { F.held files.new ≡ F.held files.old }
 {
     match command {

@@ -9,13 +9,13 @@ use vg_io::{Files, PutAllFault, Sink, put_all};
 ghost use Rattle.std.specs.Prelude.{◌≡◌, ◌≤◌, ◌⊎◌, ℕ, None, map};
 ghost use Rattle.vg_io.specs.Count.{Rose};
 ghost use Rattle.vg_io.specs.Sink.{append_known};
-ghost use Rattle.vg_top.specs.Answering.{AsksForNames, IsAnswered, IsWhole, Writes, names_of};
+ghost use Rattle.vg_top.specs.Answering.{AsksForNames, IsAnswered, IsFinal, Writes, names_of};
 ghost use Rattle.vg_top.specs.Command as command;
 ghost use Rattle.vg_top.specs.Words.{word_bytes};
 
 /// Writes an answer, and gives its status, or why it was cut short.
 fn write_answer<K: Sink>(out: &mut K, answer: &Answer) -> Status
-    requires { IsWhole answer.now.status }
+    requires { IsFinal answer.now.status }
     ensures writes { Writes answer.now.status answer.now.text.items result (K.written out.old) (K.written out.new) }
     ensures write { result ≡ Status.WriteFault → Rose (K.faults out.old) (K.faults out.new) ⊎ Rose (K.nones out.old) (K.nones out.new) }
     ensures read { result ≡ Status.ReadFault → ⊥ }

@@ -1,4 +1,4 @@
-use Rattle.std.proofs.Common.{◌≡◌, ℕ, List, [], ◌∷◌, ◌++◌, Some, IfSome, subst}
+use Rattle.std.proofs.Common.{◌≡◌, ℕ, List, [], ◌∷◌, ◌++◌, Some, IfSome, subst, refl, arith}
 use Rattle.vg_top.specs.Answers.{Held, Answer, ImageTextAnswers}
 use Rattle.vg_top.proofs.Files.{goes_on, ends_here}
 use Rattle.vg_top.proofs.answering.image_answer.Goals as goal
@@ -14,3 +14,7 @@ returns-in_ok-image_text_answer-in-Some-clause-told g c =
       c.in_ok-load_within.ensures.asked
       (ends_here told _ (λ held. next held c.in-Some.text.items) answer.status answer.text.items 
         (λ held. subst (λ (b : List ℕ). next held b [] answer.status answer.text.items) c.as_slice.ensures.value c.in_ok-image_text_answer-in-Some.ensures.right))
+
+pub returns-in_ok-image_text_answer-in-Some-clause-asked :
+    goal.returns-in_ok-image_text_answer-in-Some-clause-asked
+returns-in_ok-image_text_answer-in-Some-clause-asked g c = (1, omega arith, c.in_ok-load_within.ensures.asked, (omega arith, λ _. refl))

@@ -1,0 +1,93 @@
+-- From the answer of a command to the clauses of the program.
+use Rattle.std.proofs.Common.{◌≡◌, ◌≢◌, ℕ, suc, ◌+◌, ◌<◌, ◌≤◌, ◌⊎◌, inl, inr, List, [], ◌∷◌, ◌++◌, length, take, min, Option, Some, None, Result, Ok, Err, IfSome, refl, sym, subst, ap, ◌∙◌, append_assoc, arith}
+use Rattle.vg_top.specs.declared.answer.Answer as answer
+use Rattle.vg_top.specs.declared.fault.Fault.{Fault}
+use Rattle.vg_top.specs.declared.fault.Fault.TheVariants as fault
+use Rattle.vg_top.specs.declared.status.Status.{Status}
+use Rattle.vg_top.specs.declared.status.Status.TheVariants as status
+use Rattle.vg_top.specs.Command.{Command, command_of}
+use Rattle.vg_top.specs.Answers.{Held, Answers, CommandAnswers}
+use Rattle.vg_top.specs.Answering.{AsksSo, AsksNames, AsksUnder, AsksForNames, IsCut, IsFinal, IsOfFiles, IsWhole, IsAnswered, Writes, names_of}
+
+-- ---- names
+
+asks_one_more : (n all : ℕ) (result : Result answer.Answer Fault) → AsksSo 0 all n result → AsksSo 1 (suc all) (suc n) result
+asks_one_more n all (Ok a) h = (omega arith, λ ne. ap suc (h.1 ne))
+asks_one_more n all (Err fault.Read) h = omega arith
+asks_one_more n all (Err fault.OutOfMemory) h = tt
+
+-- behind a file of this name
+pub asks_behind : (name : List ℕ) (names before middle now : List (List ℕ)) (result : Result answer.Answer Fault) → middle ≡ before ++ name ∷ [] → AsksNames 0 names middle now result → AsksNames 1 (name ∷ names) before now result
+asks_behind name names before middle now result here h =
+    (suc h.0, omega (arith, h.1), h.2 ∙ (ap (λ m. m ++ take h.0 names) here ∙ append_assoc before (name ∷ []) (take h.0 names)), asks_one_more h.0 (length names) result h.3)
+
+-- ---- statuses
+
+-- an answer's status is none of a fault or want of memory
+pub whole_final : (command : Option Command) (s : Status) → IsWhole command s → IsFinal s
+whole_final None s h = subst IsFinal (sym h) tt
+whole_final (Some c) status.Done h = tt
+whole_final (Some c) status.Refused h = tt
+whole_final (Some c) status.Usage h = tt
+whole_final (Some c) status.ReadFault h = h
+whole_final (Some c) status.WriteFault h = h
+whole_final (Some c) status.OutOfMemory h = h
+whole_final (Some c) status.Running h = tt
+whole_final (Some c) status.StackFull h = tt
+whole_final (Some c) status.Illegal h = tt
+whole_final (Some c) status.OutOfCode h = tt
+
+-- usage is the answer to no command alone
+pub whole_usage : (command : Option Command) (s : Status) → IsWhole command s → s ≡ status.Usage → command ≡ None
+whole_usage None s h e = refl
+whole_usage (Some c) s h e = absurd (subst IsOfFiles e h)
+
+-- a status that cuts is not usage
+pub cut_usage : (s : Status) → IsCut s → s ≡ status.Usage → ⊥
+cut_usage s h e = subst IsCut e h
+
+pub writes_usage : (command : Option Command) (wanted result : Status) (text : List ℕ) (before now : Option (List ℕ)) → IsWhole command wanted → Writes wanted text result before now → result ≡ status.Usage → command ≡ None
+writes_usage command wanted result text before now whole (inl w) e = whole_usage command wanted whole (sym w.0 ∙ e)
+writes_usage command wanted result text before now whole (inr w) e = absurd (cut_usage result w.0 e)
+
+-- ---- what is asked for, under the status of the program
+
+asked_under : (all n : ℕ) (s : Status) → (min 1 all ≤ n) × (s ≢ status.Refused → n ≡ all) → IsFinal s → AsksUnder all n s
+asked_under all n status.Done h f = h.1 (λ e. cc)
+asked_under all n status.Refused h f = h.0
+asked_under all n status.Usage h f = h.1 (λ e. cc)
+asked_under all n status.ReadFault h f = absurd f
+asked_under all n status.WriteFault h f = tt
+asked_under all n status.OutOfMemory h f = tt
+asked_under all n status.Running h f = h.1 (λ e. cc)
+asked_under all n status.StackFull h f = h.1 (λ e. cc)
+asked_under all n status.Illegal h f = h.1 (λ e. cc)
+asked_under all n status.OutOfCode h f = h.1 (λ e. cc)
+
+asked_cut : (all n : ℕ) (s : Status) → IsCut s → AsksUnder all n s
+asked_cut all n status.WriteFault c = tt
+asked_cut all n status.OutOfMemory c = tt
+asked_cut all n status.Done c = absurd c
+asked_cut all n status.Refused c = absurd c
+asked_cut all n status.Usage c = absurd c
+asked_cut all n status.ReadFault c = absurd c
+asked_cut all n status.Running c = absurd c
+asked_cut all n status.StackFull c = absurd c
+asked_cut all n status.Illegal c = absurd c
+asked_cut all n status.OutOfCode c = absurd c
+
+asks_written : (all n : ℕ) (a : answer.Answer) (result : Status) (before now : Option (List ℕ)) → AsksSo (min 1 all) all n (Ok {E = Fault} a) → IsFinal a.status → Writes a.status a.text.items result before now → AsksUnder all n result
+asks_written all n a result before now asks final (inl w) = subst (AsksUnder all n) (sym w.0) (asked_under all n a.status asks final)
+asks_written all n a result before now asks final (inr w) = asked_cut all n result w.0
+
+-- the answer was written
+pub asks_final : (names before_asked now_asked : List (List ℕ)) (a : answer.Answer) (result : Status) (before now : Option (List ℕ)) → AsksNames (min 1 (length names)) names before_asked now_asked (Ok {E = Fault} a) → IsFinal a.status → Writes a.status a.text.items result before now → AsksForNames names before_asked now_asked result
+asks_final names before_asked now_asked a result before now h final w =
+    (h.0, h.1, h.2, asks_written (length names) h.0 a result before now h.3 final w)
+
+-- ---- the answer
+
+pub answered_whole : (told : Option Held) (command : Option Command) (words before_asked now_asked : List (List ℕ)) (a : answer.Answer) (result : Status) (before now : Option (List ℕ)) → command ≡ command_of words → IfSome told (λ held. (asked : List (List ℕ)) × (now_asked ≡ before_asked ++ asked) × CommandAnswers held command asked a.status a.text.items) → Writes a.status a.text.items result before now → IsAnswered told words before_asked now_asked before now result
+answered_whole None command words before_asked now_asked a result before now is h w = tt
+answered_whole (Some held) command words before_asked now_asked a result before now is h w =
+    inl (h.0, a.status, a.text.items, subst (λ (c : Option Command). CommandAnswers held c h.0 a.status a.text.items) is h.2, h.1, w)
