@@ -76,12 +76,12 @@ asked_cut all n status.StackFull c = absurd c
 asked_cut all n status.Illegal c = absurd c
 asked_cut all n status.OutOfCode c = absurd c
 
-asks_written : (all n : ℕ) (a : answer.Answer) (result : Status) (before now : Option (List ℕ)) → AsksSo (min 1 all) all n (Ok {E = Fault} a) → IsFinal a.status → Writes a.status a.text.items result before now → AsksUnder all n result
+asks_written : (all n : ℕ) (a : answer.Answer) (result : Status) (before now : Option (List ℕ)) → (min 1 all ≤ n) × (a.status ≢ status.Refused → n ≡ all) → IsFinal a.status → Writes a.status a.text.items result before now → AsksUnder all n result
 asks_written all n a result before now asks final (inl w) = subst (AsksUnder all n) (sym w.0) (asked_under all n a.status asks final)
 asks_written all n a result before now asks final (inr w) = asked_cut all n result w.0
 
 -- the answer was written
-pub asks_final : (names before_asked now_asked : List (List ℕ)) (a : answer.Answer) (result : Status) (before now : Option (List ℕ)) → AsksNames (min 1 (length names)) names before_asked now_asked (Ok {E = Fault} a) → IsFinal a.status → Writes a.status a.text.items result before now → AsksForNames names before_asked now_asked result
+pub asks_final : (names before_asked now_asked : List (List ℕ)) (a : answer.Answer) (result : Status) (before now : Option (List ℕ)) → (n : ℕ) × (n ≤ length names) × (now_asked ≡ before_asked ++ take n names) × ((min 1 (length names) ≤ n) × (a.status ≢ status.Refused → n ≡ length names)) → IsFinal a.status → Writes a.status a.text.items result before now → AsksForNames names before_asked now_asked result
 asks_final names before_asked now_asked a result before now h final w =
     (h.0, h.1, h.2, asks_written (length names) h.0 a result before now h.3 final w)
 

@@ -1,20 +1,32 @@
-use Rattle.std.proofs.Common.{◌≡◌, List, Option, Some, None, length, min, subst, sym, ◌∙◌, ap}
+use Rattle.std.proofs.Common.{◌≡◌, List, Option, Some, None, length, map, min, subst, sym, ◌∙◌, ap}
 use Rattle.std.specs.Option.{option_map}
 use Rattle.vg_top.specs.Command.{Command, command_of}
 use Rattle.vg_top.specs.Answering.{AsksNames, IsWhole, names_of}
-use Rattle.vg_top.specs.Words.{asked_of}
+use Rattle.vg_top.specs.Words.{asked_of, word_bytes}
 use Rattle.vg_top.specs.declared.fault.Fault.{Fault}
 use Rattle.vg_top.proofs.Writing.{answered_whole, asks_final, whole_final, writes_usage}
 use Rattle.vg_top.proofs.program.vadlgen.Goals as goal
 
 pub write_answer-requires : goal.write_answer-requires
-write_answer-requires g c = whole_final _ c.in-Ok.answer.status c.in-Ok.ensures.whole
+write_answer-requires g c = whole_final (option_map asked_of c.command_of.result) c.in-Ok.answer.status c.in-Ok.ensures.whole
 
 pub returns-in-Ok-clause-answered : goal.returns-in-Ok-clause-answered
-returns-in-Ok-clause-answered g c = answered_whole _ _ _ _ _ c.in-Ok.answer c.write_answer.result _ _ c.command_of.ensures c.in-Ok.ensures.told c.write_answer.ensures.writes
+returns-in-Ok-clause-answered g c =
+    answered_whole (g.F.Files.held c.args.files.now) (option_map asked_of c.command_of.result) (map word_bytes c.args.words.now)
+      (g.F.Files.asked c.args.files.now) (g.F.Files.asked c.command_answer.new.files) c.in-Ok.answer c.write_answer.result
+      (g.K.Sink.written c.args.out.now) (g.K.Sink.written c.write_answer.new.out)
+      c.command_of.ensures c.in-Ok.ensures.told c.write_answer.ensures.writes
 
 pub returns-in-Ok-clause-asked : goal.returns-in-Ok-clause-asked
-returns-in-Ok-clause-asked g c = ?
+returns-in-Ok-clause-asked g c =
+    rw (← c.command_of.ensures)
+      (asks_final (names_of (option_map asked_of c.command_of.result)) (g.F.Files.asked c.args.files.now) (g.F.Files.asked c.command_answer.new.files) c.in-Ok.answer c.write_answer.result
+        (g.K.Sink.written c.args.out.now) (g.K.Sink.written c.write_answer.new.out)
+        c.in-Ok.ensures.asked (whole_final (option_map asked_of c.command_of.result) c.in-Ok.answer.status c.in-Ok.ensures.whole) c.write_answer.ensures.writes)
 
 pub returns-in-Ok-clause-usage : goal.returns-in-Ok-clause-usage
-returns-in-Ok-clause-usage g c = ?
+returns-in-Ok-clause-usage g c =
+    rw (← c.command_of.ensures)
+      (writes_usage (option_map asked_of c.command_of.result) c.in-Ok.answer.status c.write_answer.result c.in-Ok.answer.text.items
+        (g.K.Sink.written c.args.out.now) (g.K.Sink.written c.write_answer.new.out)
+        c.in-Ok.ensures.whole c.write_answer.ensures.writes)
