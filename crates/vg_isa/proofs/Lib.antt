@@ -3,3 +3,4 @@ pub mod Registers
 pub mod Tests
 pub mod Ranges
 pub mod Instructions
+pub mod Writes

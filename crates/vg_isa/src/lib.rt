@@ -38,7 +38,7 @@ mod write_made;
 
 pub use abi::{Abi, Act, Micro, Stage};
 pub use declaration::{PcDecl, RegDecl};
-pub use effect::{made, next_pc};
+pub use effect::{made, make, next_of, next_pc};
 pub use evaluation::eval;
 pub use expr::Expr;
 pub use word_field::field;
