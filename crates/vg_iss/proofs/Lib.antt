@@ -1,0 +1,4 @@
+pub mod Decoded
+pub mod Files
+pub mod States
+pub mod Words
