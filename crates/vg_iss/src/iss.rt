@@ -34,8 +34,9 @@ struct Fetched<'a> {
 }
 
 impl<'a> Iss<'a> {
-    ghost use Rattle.std.specs.Prelude.{◌≡◌, ◌<◌, ◌^◌, [], IsTrue, IfOk, MatchResult};
+    ghost use Rattle.std.specs.Prelude.{◌≡◌, ◌<◌, ◌^◌, [], drop, IsTrue, IfOk, IfSome, MatchResult};
     ghost use Rattle.std.specs.List.{filter_map, list_all};
+    ghost use Rattle.vg_isa.specs.declared.write_made.Made.{Made as MadeWrite};
     ghost use Rattle.vg_isa.specs.Declaration.{has_register, register_width};
     ghost use Rattle.vg_isa.specs.Typing.{is_instr, is_made, is_write};
     ghost use Rattle.vg_isa.specs.Value.{Reads};
@@ -44,7 +45,7 @@ impl<'a> Iss<'a> {
     ghost use Rattle.vg_image.specs.State.{first_state, reads_of, register_written, resource_written, all_written, state_after};
     ghost use Rattle.vg_image.specs.Step.{step_of, Moved, Over};
     ghost use Rattle.vg_iss.specs.Kept.{is_memory_free, is_register, write_registers};
-    ghost use Rattle.std.specs.Option.{option_map};
+    ghost use Rattle.std.specs.Option.{option_map, option_map_or};
     ghost use Rattle.vg_image.specs.Run.{ending_of};
     ghost use Rattle.vg_iss.specs.Simulator.{description_of, image_of, state_of, stepped_of, RunsSame, answer_of, state_behind, IsRan};
 
@@ -123,29 +124,37 @@ impl<'a> Iss<'a> {
         }
     }
 
-    /// Does writes of an instruction, each of which reads the state before all of them.
-    fn write_all(&mut self, writes: &[Write], word: Bits)
+    /// Does a write of a register, where one is made.
+    #[inline(always)]
+    fn apply_made(&mut self, made: Option<Made>)
+        requires register { IfSome made (λ m. IsTrue (is_register m.resource)) }
+        requires widths { IfSome made (λ m. IsTrue (is_made (description_of self.old) m)) }
+        ensures state { state_of self.new ≡ option_map_or (λ (m : MadeWrite). resource_written (description_of self.old) m.resource m.at m.value (state_of self.old)) made (state_of self.old) }
+        ensures same { RunsSame self.old self.new }
+    {
+        if let Some(made) = made {
+            self.apply(made);
+        }
+    }
+
+    /// Does the writes from the `k`-th on, each of which reads the state before all of them.
+    fn write_from(&mut self, writes: &[Write], k: usize, word: Bits)
         requires writes { IsTrue (list_all (is_write (description_of self.old)) writes.now) }
         requires registers { IsTrue (write_registers writes.now) }
         requires word { word.width ≡ (description_of self.old).word }
-        ensures state { state_of self.new ≡ all_written (description_of self.old) (filter_map (λ write. made_by (description_of self.old) write word.number (reads_of (description_of self.old) (state_of self.old))) writes.now) (state_of self.old) }
+        ensures state { state_of self.new ≡ all_written (description_of self.old) (filter_map (λ write. made_by (description_of self.old) write word.number (reads_of (description_of self.old) (state_of self.old))) (drop k writes.now)) (state_of self.old) }
         ensures same { RunsSame self.old self.new }
     {
-        match writes {
-            [] => {}
-            [write] => {
-                if let Some(made) = make(self.isa, write, word, &*self) {
-                    self.apply(made);
-                }
-            }
-            [write, others @ ..] => {
-                let made = make(self.isa, write, word, &*self);
-                self.write_all(others, word);
-                if let Some(made) = made {
-                    self.apply(made);
-                }
-            }
+        if k >= writes.len() {
+            return;
         }
+        let made = make(self.isa, &writes[k], word, &*self);
+        if k + 1 == writes.len() {
+            self.apply_made(made);
+            return;
+        }
+        self.write_from(writes, k + 1, word);
+        self.apply_made(made);
     }
 
     /// Does an instruction.
@@ -157,8 +166,9 @@ impl<'a> Iss<'a> {
         ensures state { state_of self.new ≡ state_after (description_of self.old) instr.now word.number (state_of self.old) }
         ensures same { RunsSame self.old self.new }
     {
+        let _ = self.isa.parts();
         let next = next_of(self.isa, instr, word, &*self);
-        self.write_all(instr.writes.as_slice(), word);
+        self.write_from(instr.writes.as_slice(), 0, word);
         self.pc = next.value() as u64;
     }
 
@@ -220,14 +230,15 @@ impl<'a> Iss<'a> {
     {
         let mut done = 0;
         while done < n {
-            let stepped = self.step();
-            if stepped != Stepped::Moved {
-                return Ran {
-                    end: Some(stepped),
-                    done,
-                };
+            match self.step() {
+                Stepped::Moved => done += 1,
+                stepped => {
+                    return Ran {
+                        end: Some(stepped),
+                        done,
+                    };
+                }
             }
-            done += 1;
         }
         Ran {
             end: self.end(),
