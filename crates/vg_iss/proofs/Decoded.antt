@@ -1,7 +1,8 @@
 -- Trying items of a list in their order.
-use Rattle.std.proofs.Common.{◌≡◌, ℕ, suc, ◌<◌, Bool, true, false, not, cond, List, [], ◌∷◌, length, nat_lt, nat_eq, slice_get, get_or, drop, drop-cons, Some, None, Option, refl, sym, ap, ◌∙◌, subst, if◌then◌else◌}
+use Rattle.std.proofs.Common.{◌≡◌, ℕ, suc, ◌+◌, ◌<◌, Bool, true, false, not, cond, List, [], ◌∷◌, length, nat_lt, nat_eq, slice_get, get_or, drop, drop-cons, Some, None, Option, refl, sym, ap, ◌∙◌, subst, arith, if◌then◌else◌}
 use Rattle.std.specs.List.{find, list_all, position, position_or_len}
 use Rattle.std.specs.Option.{option_and_then}
+use Rattle.std.proofs.lemmas.Bool.Decides.{nat_tests}
 use Rattle.vg_isa.specs.declared.isa.Parts.{Parts}
 use Rattle.vg_isa.specs.declared.instr.Instr.{Instr}
 use Rattle.vg_image.specs.State.{State}
@@ -11,17 +12,30 @@ use Rattle.vg_image.specs.declared.ending.Ending.TheVariants.{End, StackEnd}
 use Rattle.vg_image.specs.Step.{Step, Over, instr_step, executed, word_at, word_step, step_of}
 use Rattle.vg_isa.proofs.Tests.{both}
 
+nat_lt-suc : (m n : ℕ) → nat_lt (suc m) (suc n) ≡ nat_lt m n
+nat_lt-suc m n = grind (arith, nat_tests)
+
+nat_lt-zero : (n : ℕ) → nat_lt 0 (suc n) ≡ true
+nat_lt-zero n = grind (arith, nat_tests)
+
+-- numbers that differ fail the test
+pub nat_eq-false : (m n : ℕ) → (m ≡ n → ⊥) → nat_eq m n ≡ false
+nat_eq-false m n h = grind (arith, nat_tests)
+
 -- what stands at the first place is what is found
 position_found : {X : Type 0} (p : X → Bool) (xs : List X) → option_and_then (λ (k : ℕ). slice_get xs k) (position p xs) ≡ find p xs
 position_found p [] = refl
-position_found p (x ∷ xs) = first (p x) (position_found p xs)
+position_found p (x ∷ xs) = first (p x) (position_or_len p xs) (1 + position_or_len p xs) (omega arith) (position_found p xs)
   where
     shifted : (rest : ℕ) (b : Bool) → option_and_then (λ (k : ℕ). slice_get (x ∷ xs) k) (cond b (Some (suc rest)) None) ≡ option_and_then (λ (k : ℕ). slice_get xs k) (cond b (Some rest) None)
     shifted rest true = refl
     shifted rest false = refl
-    first : (b : Bool) → option_and_then (λ (k : ℕ). slice_get xs k) (position p xs) ≡ find p xs → option_and_then (λ (k : ℕ). slice_get (x ∷ xs) k) (cond (nat_lt (cond (not b) (suc (position_or_len p xs)) 0) (suc (length xs))) (Some (cond (not b) (suc (position_or_len p xs)) 0)) None) ≡ cond b (Some x) (find p xs)
-    first true later = refl
-    first false later = shifted (position_or_len p xs) (nat_lt (position_or_len p xs) (length xs)) ∙ later
+    first : (b : Bool) (rest next : ℕ) → next ≡ suc rest → option_and_then (λ (k : ℕ). slice_get xs k) (cond (nat_lt rest (length xs)) (Some rest) None) ≡ find p xs → option_and_then (λ (k : ℕ). slice_get (x ∷ xs) k) (cond (nat_lt (cond (not b) next 0) (suc (length xs))) (Some (cond (not b) next 0)) None) ≡ cond b (Some x) (find p xs)
+    first true rest next is later = ap (λ (b : Bool). option_and_then (λ (k : ℕ). slice_get (x ∷ xs) k) (cond b (Some 0) None)) (nat_lt-zero (length xs))
+    first false rest next is later =
+        ap (λ (n : ℕ). option_and_then (λ (k : ℕ). slice_get (x ∷ xs) k) (cond (nat_lt n (suc (length xs))) (Some n) None)) is
+        ∙ ap (λ (b : Bool). option_and_then (λ (k : ℕ). slice_get (x ∷ xs) k) (cond b (Some (suc rest)) None)) (nat_lt-suc rest (length xs))
+        ∙ shifted rest (nat_lt rest (length xs)) ∙ later
 
 -- an item that passes is found where none before it passes
 pub find-here : {X : Type 0} (p : X → Bool) (xs : List X) (i : ℕ) (x : X) → i < length xs → x ≡ get_or xs i x → p x ≡ true → find p xs ≡ find p (drop i xs) → Some x ≡ find p xs

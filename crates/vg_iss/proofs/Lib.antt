@@ -4,4 +4,3 @@ pub mod Runs
 pub mod States
 pub mod Widths
 pub mod Words
-pub mod Writes

@@ -1,5 +1,5 @@
 -- Runs, one step at a time.
-use Rattle.std.proofs.Common.{◌≡◌, ℕ, suc, ◌+◌, ◌<◌, ◌≤◌, Some, None, Option, IsNone, refl, sym, ap, ◌∙◌, add-one, subst, arith}
+use Rattle.std.proofs.Common.{◌≡◌, ℕ, true, false, suc, ◌+◌, ◌<◌, ◌≤◌, Some, None, Option, IsNone, refl, sym, ap, ◌∙◌, add-one, subst, arith}
 use Rattle.std.specs.Option.{option_map}
 use Rattle.vg_isa.specs.declared.isa.Parts.{Parts}
 use Rattle.vg_image.specs.declared.image.Image.{Image}
@@ -12,6 +12,9 @@ use Rattle.vg_iss.specs.declared.stepped.Stepped.{Stepped}
 use Rattle.vg_iss.specs.declared.stepped.Stepped.TheVariants as stepped
 use Rattle.vg_iss.specs.declared.ran.Ran.{Ran}
 use Rattle.vg_iss.specs.Simulator.{answer_of, state_behind, stepped_of, IsRan}
+
+true_false : true ≡ false → ⊥
+true_false h = cc
 
 over_moves : (e : Ending) → stepped.Moved ≡ stepped_of e → ⊥
 over_moves End h = cc
@@ -29,7 +32,7 @@ pub steps_more : (d e : Parts) (i j : Image) (k : ℕ) (s t u : State) → e ≡
 steps_more d e i j k s t u same_d same_i steps answer left =
     let moved : step_of e j t ≡ Moved u = moved_step (step_of e j t) t u answer left in
     let here : step_of d i t ≡ Moved u = ap (λ x. step_of x i t) (sym same_d) ∙ ap (λ x. step_of e x t) (sym same_i) ∙ moved in
-    subst (λ (n : ℕ). Steps d i n s u) (sym add-one) (t, (steps, here))
+    subst (λ (n : ℕ). Steps d i n s u) (sym (add-one k)) (t, steps, here)
 
 -- how a run ends at a step that doesn't move
 ended : (d : Parts) (i : Image) (n k : ℕ) (s t u : State) (a : Stepped) (x : Step) → Steps d i k s t → k ≤ n → step_of d i t ≡ x → a ≡ answer_of x → (a ≡ stepped.Moved → ⊥) → u ≡ state_behind x t → IsRan d i n s u (record { end = Some a; done = k })
@@ -40,7 +43,7 @@ ended d i n k s t u a (Over e) steps within is answer still left = record {
     steps = subst (λ v. Steps d i k s v) (sym left) steps;
     within = within;
     ending = ap ending_of (sym is) ∙ ap (λ v. ending_of (step_of d i v)) (sym left);
-    running = λ none. absurd none;
+    running = λ none. absurd (true_false none);
   };
   end = ap Some answer;
 }
@@ -48,16 +51,3 @@ ended d i n k s t u a (Over e) steps within is answer still left = record {
 pub ran_ended : (d e : Parts) (i j : Image) (n k : ℕ) (s t u : State) (a : Stepped) → e ≡ d → j ≡ i → Steps d i k s t → k < n → a ≡ answer_of (step_of e j t) → (a ≡ stepped.Moved → ⊥) → u ≡ state_behind (step_of e j t) t → IsRan d i n s u (record { end = Some a; done = k })
 ran_ended d e i j n k s t u a same_d same_i steps within answer still left =
     ended d i n k s t u a (step_of e j t) steps (omega arith) (ap (λ x. step_of x i t) (sym same_d) ∙ ap (λ x. step_of e x t) (sym same_i)) answer still left
-
--- how a run stands after all its steps
-pub ran_all : (d e : Parts) (i j : Image) (n k : ℕ) (s t : State) (end : Option Stepped) → e ≡ d → j ≡ i → Steps d i k s t → k ≡ n → end ≡ option_map stepped_of (ending_of (step_of e j t)) → IsRan d i n s t (record { end = end; done = k })
-ran_all d e i j n k s t end same_d same_i steps all is = record {
-  ending = ending_of (step_of d i t);
-  run = record {
-    steps = steps;
-    within = omega arith;
-    ending = refl;
-    running = λ none. all;
-  };
-  end = is ∙ ap (λ x. option_map stepped_of (ending_of (step_of x j t))) same_d ∙ ap (λ x. option_map stepped_of (ending_of (step_of d x t))) same_i;
-}

@@ -18,10 +18,13 @@ machine_width_most n h = grind (arith, nat_tests)
 two_positive : 0 < 2
 two_positive = omega arith
 
+pc_machine : (d : Parts) → IsTrue (is_isa d) → IsTrue (is_machine_width d.pc.width)
+pc_machine d h = (both _ _ (both _ _ (both _ _ (both _ _ h).0).0).0).1
+
 -- an address is below 2 ^ 64
 pub address_below : (d : Parts) (w n : ℕ) → IsTrue (is_isa d) → w ≡ d.pc.width → n < 2 ^ w → n < 2 ^ 64
 address_below d w n h width below =
-    let few : d.pc.width ≤ 64 = machine_width_most d.pc.width (both _ _ (both _ _ (both _ _ (both _ _ h).0).0).0).1 in
+    let few : d.pc.width ≤ 64 = machine_width_most d.pc.width (pc_machine d h) in
     let less : w ≤ 64 = omega arith in
     let most : 2 ^ w ≤ 2 ^ 64 = pow-le-pow_right two_positive less in
     omega arith
