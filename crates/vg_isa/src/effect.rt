@@ -1,3 +1,9 @@
+ghost use Rattle.std.specs.Prelude.{◌≡◌, ◌<◌, IsTrue, length, slice_get, IfSome};
+ghost use Rattle.vg_isa.specs.Typing.{is_instr, is_made, is_typed, is_write, is_write_of, width_of};
+ghost use Rattle.vg_isa.specs.Value.{HasDeclaredWidths, value_of};
+ghost use Rattle.vg_isa.specs.Effect.{made_by, made_of, next_pc_of, following};
+ghost use Rattle.std.specs.Option.{option_map, ForSome};
+
 use crate::evaluation::eval;
 use crate::ids::InstrId;
 use crate::instr::{Instr, Write};
@@ -5,12 +11,6 @@ use crate::isa::Isa;
 use crate::view::View;
 use crate::write_made::Made;
 use vg_bits::Bits;
-
-ghost use Rattle.std.specs.Prelude.{◌≡◌, ◌<◌, IsTrue, length, slice_get, IfSome};
-ghost use Rattle.vg_isa.specs.Typing.{is_instr, is_made, is_typed, is_write, is_write_of, width_of};
-ghost use Rattle.vg_isa.specs.Value.{HasDeclaredWidths, value_of};
-ghost use Rattle.vg_isa.specs.Effect.{made_by, made_of, next_pc_of, following};
-ghost use Rattle.std.specs.Option.{option_map, ForSome};
 
 /// The address or index of a write.
 fn place<V: View>(isa: &Isa, write: &Write, word: Bits, v: &V) -> Option<Bits>

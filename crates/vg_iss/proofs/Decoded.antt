@@ -4,12 +4,11 @@ use Rattle.std.specs.List.{find, list_all, position, position_or_len}
 use Rattle.std.specs.Option.{option_and_then}
 use Rattle.std.proofs.lemmas.Bool.Decides.{nat_tests}
 use Rattle.vg_isa.specs.declared.isa.Parts.{Parts}
-use Rattle.vg_isa.specs.declared.instr.Instr.{Instr}
 use Rattle.vg_image.specs.State.{State}
 use Rattle.vg_image.specs.Decoding.{matches, decoded}
 use Rattle.vg_image.specs.declared.image.Image.{Image}
 use Rattle.vg_image.specs.declared.ending.Ending.TheVariants.{End, StackEnd}
-use Rattle.vg_image.specs.Step.{Step, Over, instr_step, executed, word_at, word_step, step_of}
+use Rattle.vg_image.specs.Step.{Over, instr_step, executed, word_at, word_step, step_of}
 use Rattle.vg_isa.proofs.Tests.{both}
 
 nat_lt-suc : (m n : ℕ) → nat_lt (suc m) (suc n) ≡ nat_lt m n
@@ -30,6 +29,7 @@ position_found p (x ∷ xs) = first (p x) (position_or_len p xs) (1 + position_o
     shifted : (rest : ℕ) (b : Bool) → option_and_then (λ (k : ℕ). slice_get (x ∷ xs) k) (cond b (Some (suc rest)) None) ≡ option_and_then (λ (k : ℕ). slice_get xs k) (cond b (Some rest) None)
     shifted rest true = refl
     shifted rest false = refl
+
     first : (b : Bool) (rest next : ℕ) → next ≡ suc rest → option_and_then (λ (k : ℕ). slice_get xs k) (cond (nat_lt rest (length xs)) (Some rest) None) ≡ find p xs → option_and_then (λ (k : ℕ). slice_get (x ∷ xs) k) (cond (nat_lt (cond (not b) next 0) (suc (length xs))) (Some (cond (not b) next 0)) None) ≡ cond b (Some x) (find p xs)
     first true rest next is later = ap (λ (b : Bool). option_and_then (λ (k : ℕ). slice_get (x ∷ xs) k) (cond b (Some 0) None)) (nat_lt-zero (length xs))
     first false rest next is later =

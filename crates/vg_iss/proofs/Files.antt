@@ -1,5 +1,5 @@
 -- The numbers of registers, as declared.
-use Rattle.std.proofs.Common.{◌≡◌, ℕ, zero, suc, ◌+◌, ◌<◌, ◌≤◌, ◌^◌, Bool, true, false, ◌&&◌, List, [], ◌∷◌, length, map, replicate, IsTrue, nat_lt, nat_eq, slice_get, slice_set, Some, None, Option, is_none, arith, refl, sym, subst, ap, ◌∙◌, unwrap_or, get_or}
+use Rattle.std.proofs.Common.{◌≡◌, ℕ, zero, suc, ◌<◌, ◌^◌, Bool, true, false, ◌&&◌, List, [], ◌∷◌, length, map, replicate, IsTrue, nat_lt, nat_eq, slice_get, slice_set, Some, None, Option, is_none, arith, refl, sym, subst, ap, ◌∙◌, get_or}
 use Rattle.std.specs.Option.{option_map_or}
 use Rattle.std.specs.List.{list_all}
 use Rattle.std.proofs.lemmas.Bool.Decides.{nat_tests}
@@ -65,8 +65,8 @@ list_all-set p (m ∷ numbers) (suc i) n h k = conjunction _ _ (both _ _ h).0 (l
 pub set_fits : (decl : RegDecl) (numbers : List ℕ) (i n : ℕ) → IsTrue (is_file_of decl numbers) → n < 2 ^ decl.width → IsTrue (is_file_of decl (slice_set numbers i n))
 set_fits decl numbers i n h below =
     conjunction _ _
-      (nat_eq-true _ _ (length-set numbers i n ∙ length-file decl numbers h))
-      (list_all-set (λ (m : ℕ). nat_lt m (2 ^ decl.width)) numbers i n (both _ _ h).1 (nat_lt-true _ _ below))
+    (nat_eq-true _ _ (length-set numbers i n ∙ length-file decl numbers h))
+    (list_all-set (λ (m : ℕ). nat_lt m (2 ^ decl.width)) numbers i n (both _ _ h).1 (nat_lt-true _ _ below))
 
 -- the numbers of one declaration may be replaced by ones that fit it
 pub set_files : (regs : List RegDecl) (files : List (List ℕ)) (r : ℕ) (decl : RegDecl) (numbers : List ℕ) → IsTrue (are_numbers regs files) → slice_get regs r ≡ Some decl → IsTrue (is_file_of decl numbers) → IsTrue (are_numbers regs (slice_set files r numbers))

@@ -1,16 +1,14 @@
 -- Runs, one step at a time.
-use Rattle.std.proofs.Common.{◌≡◌, ℕ, true, false, suc, ◌+◌, ◌<◌, ◌≤◌, Some, None, Option, IsNone, refl, sym, ap, ◌∙◌, add-one, subst, arith}
-use Rattle.std.specs.Option.{option_map}
+use Rattle.std.proofs.Common.{◌≡◌, ℕ, true, false, ◌+◌, ◌<◌, ◌≤◌, Some, sym, ap, ◌∙◌, add-one, subst, arith}
 use Rattle.vg_isa.specs.declared.isa.Parts.{Parts}
 use Rattle.vg_image.specs.declared.image.Image.{Image}
 use Rattle.vg_image.specs.declared.ending.Ending.{Ending}
 use Rattle.vg_image.specs.declared.ending.Ending.TheVariants.{End, StackEnd, OutOfCode, Illegal}
 use Rattle.vg_image.specs.State.{State}
 use Rattle.vg_image.specs.Step.{Step, Moved, Over, step_of}
-use Rattle.vg_image.specs.Run.{Steps, ending_of, IsRun}
+use Rattle.vg_image.specs.Run.{Steps, ending_of}
 use Rattle.vg_iss.specs.declared.stepped.Stepped.{Stepped}
 use Rattle.vg_iss.specs.declared.stepped.Stepped.TheVariants as stepped
-use Rattle.vg_iss.specs.declared.ran.Ran.{Ran}
 use Rattle.vg_iss.specs.Simulator.{answer_of, state_behind, stepped_of, IsRan}
 
 true_false : true ≡ false → ⊥

@@ -1,5 +1,5 @@
 -- What a state reads at a register, and how a write changes it.
-use Rattle.std.proofs.Common.{◌≡◌, ℕ, Bool, true, false, nat_eq, List, [], slice_get, slice_set, Some, None, Option, unwrap_or, refl, sym, ap, ◌∙◌, get_or, if◌then◌else◌}
+use Rattle.std.proofs.Common.{◌≡◌, ℕ, Bool, false, nat_eq, List, [], slice_get, slice_set, Some, Option, unwrap_or, sym, ap, ◌∙◌, get_or, if◌then◌else◌}
 use Rattle.std.specs.Option.{option_map_or}
 use Rattle.vg_isa.specs.declared.isa.Parts.{Parts}
 use Rattle.vg_isa.specs.declared.declaration.RegDecl.{RegDecl}

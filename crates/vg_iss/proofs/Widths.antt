@@ -1,5 +1,5 @@
 -- Widths of addresses and indices.
-use Rattle.std.proofs.Common.{◌≡◌, ℕ, ◌<◌, ◌≤◌, ◌^◌, ◌&&◌, IsTrue, arith, subst, Some, Option}
+use Rattle.std.proofs.Common.{◌≡◌, ℕ, ◌<◌, ◌≤◌, ◌^◌, IsTrue, arith, subst, Some, Option}
 use Rattle.std.proofs.lemmas.Bool.Decides.{nat_tests}
 use Rattle.std.proofs.Math.Nat.{pow-le-pow_right}
 use Rattle.vg_bits.specs.BitValue.{BitValue}
@@ -7,7 +7,6 @@ use Rattle.vg_isa.specs.declared.isa.Parts.{Parts}
 use Rattle.vg_isa.specs.declared.ids.ResourceId.{ResourceId}
 use Rattle.vg_isa.specs.declared.ids.ResourceId.TheVariants.{Reg}
 use Rattle.vg_isa.specs.declared.ids.RegId.{RegId}
-use Rattle.vg_isa.specs.Declaration.{is_file, register_width}
 use Rattle.vg_isa.specs.Typing.{is_isa, is_machine_width, is_made_of}
 use Rattle.vg_isa.proofs.Registers.{index_below}
 use Rattle.vg_isa.proofs.Tests.{both}

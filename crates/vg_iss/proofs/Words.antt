@@ -1,6 +1,5 @@
 -- Code words, and bytes that weren't stored.
-use Rattle.std.proofs.Common.{◌≡◌, ℕ, zero, suc, ◌+◌, ◌*◌, ◌-◌, ◌/◌, ◌%◌, ◌<◌, ◌^◌, Bool, true, false, ◌&&◌, List, [], ◌∷◌, All, IsTrue, nat_lt, nat_le, nat_eq, slice_get, Some, None, Option, arith, refl, sym, ap, ◌∙◌, if◌then◌else◌}
-use Rattle.std.specs.List.{list_all}
+use Rattle.std.proofs.Common.{◌≡◌, ℕ, zero, suc, ◌+◌, ◌-◌, ◌/◌, ◌%◌, ◌<◌, ◌^◌, Bool, true, false, List, All, IsTrue, nat_lt, Some, None, Option, arith, refl, if◌then◌else◌}
 use Rattle.std.proofs.lemmas.List.Sums.{list_all-from_AllPass}
 use Rattle.vg_isa.specs.declared.isa.Parts.{Parts}
 use Rattle.vg_isa.specs.Value.{loaded}
@@ -8,7 +7,7 @@ use Rattle.vg_isa.proofs.Tests.{list_all-slice_get}
 use Rattle.vg_image.specs.declared.image.Image.{Image}
 use Rattle.vg_image.specs.Step.{word_at, word_bytes}
 use Rattle.vg_iss.specs.Kept.{are_words}
-use Rattle.vg_iss.proofs.Files.{conjunction, nat_lt-true, true-nat_lt}
+use Rattle.vg_iss.proofs.Files.{nat_lt-true, true-nat_lt}
 
 some_of_if : (b : Bool) (o : Option ℕ) (word : ℕ) → (if b then o else None) ≡ Some word → o ≡ Some word
 some_of_if true o word h = h

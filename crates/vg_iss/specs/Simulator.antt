@@ -1,5 +1,5 @@
 -- The state that a simulator stands for, and what its answers say of a step and of a run.
-use Rattle.std.specs.Prelude.{◌≡◌, ℕ, Option, Some, None}
+use Rattle.std.specs.Prelude.{◌≡◌, ℕ, Option}
 use Rattle.std.specs.Option.{option_map}
 use Rattle.std.specs.FinMap.{empty}
 use Rattle.vg_isa.specs.declared.isa.Parts.{Parts}

@@ -1,13 +1,13 @@
 //! Which instruction a word is, by trying all.
-use vg_bits::Bits;
-use vg_isa::{FieldId, Instr, Isa, field};
-
 ghost use Rattle.std.specs.Prelude.{◌≡◌, IsTrue, IfSome, find, nat_eq, ◌&&◌};
 ghost use Rattle.std.specs.List.{list_all};
 ghost use Rattle.std.specs.Option.{option_copied};
 ghost use Rattle.vg_isa.specs.Declaration.{field_of, has_field, bits_of, ranges_of};
 ghost use Rattle.vg_isa.specs.Typing.{is_instr};
 ghost use Rattle.vg_image.specs.Decoding.{matches};
+
+use vg_bits::Bits;
+use vg_isa::{FieldId, Instr, Isa, field};
 
 /// Whether the fields of a word have their fixed values.
 #[inline(always)]

@@ -1,12 +1,12 @@
 //! The code word at an address.
-use vg_bits::Bits;
-use vg_image::Image;
-use vg_isa::Isa;
-
 ghost use Rattle.std.specs.Prelude.{◌≡◌, ◌⊎◌, ◌%◌, ◌/◌, if◌then◌else◌, nat_eq, IfSome, IsTrue, Some, None};
 ghost use Rattle.std.specs.Option.{option_map};
 ghost use Rattle.vg_image.specs.Step.{word_at as code_word_at};
 ghost use Rattle.vg_iss.specs.Kept.{are_words};
+
+use vg_bits::Bits;
+use vg_image::Image;
+use vg_isa::Isa;
 
 /// How many words of 2, 4 or 8 bytes a distance has; None where it isn't of whole words.
 #[inline(always)]

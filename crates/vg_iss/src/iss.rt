@@ -1,3 +1,6 @@
+ghost use Rattle.std.specs.Prelude.{◌<◌, ◌^◌, IsTrue};
+ghost use Rattle.vg_iss.specs.Kept.{is_memory_free, are_words, are_numbers};
+
 use crate::decoding::decode;
 use crate::fetch::word_at;
 use crate::ran::Ran;
@@ -8,9 +11,6 @@ use std::alloc::{AllocError, Global};
 use vg_bits::{Bits, Width};
 use vg_image::{Ending, Image};
 use vg_isa::{Instr, Isa, Made, RegId, ResourceId, View, Write, make, next_of};
-
-ghost use Rattle.std.specs.Prelude.{◌<◌, ◌^◌, IsTrue};
-ghost use Rattle.vg_iss.specs.Kept.{is_memory_free, are_words, are_numbers};
 
 /// A machine that runs an image of a description.
 #[derive(Drop)]
@@ -91,19 +91,19 @@ impl<'a> Iss<'a> {
 
     /// Writes a register.
     #[inline(always)]
-    fn set(&mut self, r: RegId, i: u8, value: Bits)
-        requires register { IsTrue (has_register (description_of self.old).regs r.0 i) }
+    fn set(&mut self, r: RegId, index: u8, value: Bits)
+        requires register { IsTrue (has_register (description_of self.old).regs r.0 index) }
         requires width { value.width ≡ register_width (description_of self.old).regs r.0 }
-        ensures state { state_of self.new ≡ register_written (description_of self.old) r.0 i value.number (state_of self.old) }
+        ensures state { state_of self.new ≡ register_written (description_of self.old) r.0 index value.number (state_of self.old) }
         ensures same { RunsSame self.old self.new }
     {
         let decl = &self.isa.parts().regs.as_slice()[r.0 as usize];
-        if is_zero(decl, i) {
+        if is_zero(decl, index) {
             return;
         }
         let number = value.value();
         let numbers = &mut self.registers[r.0 as usize];
-        numbers.set(i as usize, number);
+        numbers.set(index as usize, number);
     }
 
     /// Does a write of a register.

@@ -1,13 +1,13 @@
 //! The numbers of registers.
-use sqlite_items::Items;
-use std::alloc::{AllocError, Global};
-use vg_isa::{Isa, RegDecl};
-
 ghost use Rattle.std.specs.Prelude.{◌≡◌, ◌≤◌, IfOk, IsTrue, map, nat_eq, false, replicate};
 ghost use Rattle.std.specs.Option.{option_map_or};
 ghost use Rattle.vg_isa.specs.declared.declaration.RegDecl.{RegDecl};
 ghost use Rattle.vg_isa.specs.Declaration.{register_count};
 ghost use Rattle.vg_isa.specs.Typing.{is_register_decl};
+
+use sqlite_items::Items;
+use std::alloc::{AllocError, Global};
+use vg_isa::{Isa, RegDecl};
 
 /// Whether the register with this index reads as 0.
 #[inline(always)]

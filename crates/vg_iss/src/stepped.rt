@@ -1,7 +1,7 @@
-use vg_image::Ending;
-
 ghost use Rattle.std.specs.Prelude.{◌≡◌};
 ghost use Rattle.vg_iss.specs.Simulator.{stepped_of};
+
+use vg_image::Ending;
 
 /// What a step did.
 #[derive(Clone, Copy, Debug, PartialEq, Eq)]

@@ -1,4 +1,4 @@
-use Rattle.std.proofs.Common.{◌≡◌, ℕ, ◌<◌, true, false, Bool, List, length, get_or, slice_get, Some, sym, ap, ◌∙◌, subst, nat_eq, add-one, find, drop, refl}
+use Rattle.std.proofs.Common.{◌≡◌, ℕ, ◌<◌, true, false, Bool, List, length, get_or, sym, ap, ◌∙◌, subst, nat_eq, add-one, find, drop, refl}
 use Rattle.std.specs.List.{list_all}
 use Rattle.std.proofs.lemmas.Option.{slice_get_read}
 use Rattle.vg_bits.specs.BitValue.{BitValue}
@@ -25,23 +25,23 @@ told d word instr answer value fixed is same has = sym (is ∙ ap (λ (xs : List
 pub returns-then-matches_fixed-clause-first : goal.returns-then-matches_fixed-clause-first
 returns-then-matches_fixed-clause-first c =
     find-here (matches c.args.isa.now c.args.word.number) c.args.isa.now.instrs c.loop-instr.instr-index c.instr-item.result
-      (within_all c.args.isa.now c.parts.result.now c.as_slice-instr-items.result.now c.loop-instr.instr-index c.parts.ensures.same c.as_slice-instr-items.ensures c.loop-instr-test.true)
-      (item c.args.isa.now c.parts.result.now c.as_slice-instr-items.result.now c.loop-instr.instr-index c.instr-item.result c.parts.ensures.same c.as_slice-instr-items.ensures c.instr-item.is)
-      (told c.args.isa.now c.args.word.number c.instr-item.result c.matches_fixed.result true c.as_slice.result.now c.matches_fixed.ensures c.as_slice.ensures c.if-matches_fixed.true)
-      c.loop-instr.invariant
+    (within_all c.args.isa.now c.parts.result.now c.as_slice-instr-items.result.now c.loop-instr.instr-index c.parts.ensures.same c.as_slice-instr-items.ensures c.loop-instr-test.true)
+    (item c.args.isa.now c.parts.result.now c.as_slice-instr-items.result.now c.loop-instr.instr-index c.instr-item.result c.parts.ensures.same c.as_slice-instr-items.ensures c.instr-item.is)
+    (told c.args.isa.now c.args.word.number c.instr-item.result c.matches_fixed.result true c.as_slice.result.now c.matches_fixed.ensures c.as_slice.ensures c.if-matches_fixed.true)
+    c.loop-instr.invariant
 
 pub returns-then-matches_fixed-clause-typed : goal.returns-then-matches_fixed-clause-typed
 returns-then-matches_fixed-clause-typed c =
     instr_typed c.args.isa.now c.loop-instr.instr-index c.instr-item.result c.parts.ensures.typed
-      (slice_get_read c.args.isa.now.instrs (length c.args.isa.now.instrs) c.loop-instr.instr-index c.instr-item.result refl
-        (within_all c.args.isa.now c.parts.result.now c.as_slice-instr-items.result.now c.loop-instr.instr-index c.parts.ensures.same c.as_slice-instr-items.ensures c.loop-instr-test.true)
-        (item c.args.isa.now c.parts.result.now c.as_slice-instr-items.result.now c.loop-instr.instr-index c.instr-item.result c.parts.ensures.same c.as_slice-instr-items.ensures c.instr-item.is))
+    (slice_get_read c.args.isa.now.instrs (length c.args.isa.now.instrs) c.loop-instr.instr-index c.instr-item.result refl
+    (within_all c.args.isa.now c.parts.result.now c.as_slice-instr-items.result.now c.loop-instr.instr-index c.parts.ensures.same c.as_slice-instr-items.ensures c.loop-instr-test.true)
+    (item c.args.isa.now c.parts.result.now c.as_slice-instr-items.result.now c.loop-instr.instr-index c.instr-item.result c.parts.ensures.same c.as_slice-instr-items.ensures c.instr-item.is))
 
 pub loop-instr-preserved : goal.loop-instr-preserved
 loop-instr-preserved c =
     find-past (matches c.args.isa.now c.args.word.number) c.args.isa.now.instrs c.loop-instr.instr-index c.instr-item.result
-      (within_all c.args.isa.now c.parts.result.now c.as_slice-instr-items.result.now c.loop-instr.instr-index c.parts.ensures.same c.as_slice-instr-items.ensures c.loop-instr-test.true)
-      (item c.args.isa.now c.parts.result.now c.as_slice-instr-items.result.now c.loop-instr.instr-index c.instr-item.result c.parts.ensures.same c.as_slice-instr-items.ensures c.instr-item.is)
-      (told c.args.isa.now c.args.word.number c.instr-item.result c.matches_fixed.result false c.as_slice.result.now c.matches_fixed.ensures c.as_slice.ensures c.if-matches_fixed.false)
-      c.loop-instr.invariant
+    (within_all c.args.isa.now c.parts.result.now c.as_slice-instr-items.result.now c.loop-instr.instr-index c.parts.ensures.same c.as_slice-instr-items.ensures c.loop-instr-test.true)
+    (item c.args.isa.now c.parts.result.now c.as_slice-instr-items.result.now c.loop-instr.instr-index c.instr-item.result c.parts.ensures.same c.as_slice-instr-items.ensures c.instr-item.is)
+    (told c.args.isa.now c.args.word.number c.instr-item.result c.matches_fixed.result false c.as_slice.result.now c.matches_fixed.ensures c.as_slice.ensures c.if-matches_fixed.false)
+    c.loop-instr.invariant
     ∙ ap (λ (n : ℕ). find (matches c.args.isa.now c.args.word.number) (drop n c.args.isa.now.instrs)) (sym (add-one c.loop-instr.instr-index))

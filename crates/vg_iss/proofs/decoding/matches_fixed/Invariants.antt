@@ -7,4 +7,4 @@ use Rattle.vg_iss.proofs.decoding.matches_fixed.Given as goal
 abbrev pub invariant-loop-id : goal.invariant-loop-id
 invariant-loop-id l =
     list_all (λ fix. nat_eq (field_of l.isa fix.0 l.word.number).number fix.1.number) l.fixed
-      ≡ list_all (λ fix. nat_eq (field_of l.isa fix.0 l.word.number).number fix.1.number) (drop l.id-index l.fixed)
+    ≡ list_all (λ fix. nat_eq (field_of l.isa fix.0 l.word.number).number fix.1.number) (drop l.id-index l.fixed)

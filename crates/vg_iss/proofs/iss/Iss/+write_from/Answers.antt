@@ -7,4 +7,4 @@ use Rattle.vg_iss.proofs.iss.Iss.+write_from.Goals as goal
 pub make-made-requires-clause-write : goal.make-made-requires-clause-write
 make-made-requires-clause-write t c =
     list_all-slice_get (is_write c.args.self.now.isa.now) c.args.writes.now c.args.k c.index-writes-k.result c.requires.writes
-      (slice_get_read c.args.writes.now (length c.args.writes.now) c.args.k c.index-writes-k.result refl c.if-k-writes.false c.index-writes-k.is)
+    (slice_get_read c.args.writes.now (length c.args.writes.now) c.args.k c.index-writes-k.result refl c.if-k-writes.false c.index-writes-k.is)

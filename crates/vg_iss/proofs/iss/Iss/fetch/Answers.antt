@@ -10,20 +10,20 @@ use Rattle.vg_iss.proofs.iss.Iss.fetch.Goals as goal
 pub returns-in-None-decode-clause-step : goal.returns-in-None-decode-clause-step
 returns-in-None-decode-clause-step c =
     step_of-word c.args.self.now.isa.now c.args.self.now.image.now (state_of c.args.self.now) c.in-Some.word.number
-      (nat_eq-false c.args.self.now.pc c.args.self.now.image.now.stop c.if-self.false)
-      (nat_eq-false c.args.self.now.pc c.args.self.now.image.now.full c.if-self-2.false)
-      c.in-Some.ensures.number
+    (nat_eq-false c.args.self.now.pc c.args.self.now.image.now.stop c.if-self.false)
+    (nat_eq-false c.args.self.now.pc c.args.self.now.image.now.full c.if-self-2.false)
+    c.in-Some.ensures.number
     ∙ ap (executed c.args.self.now.isa.now c.in-Some.word.number (state_of c.args.self.now)) (sym c.in-None-decode.ensures.first)
 
 pub returns-in-Some-decode-clause-step : goal.returns-in-Some-decode-clause-step
 returns-in-Some-decode-clause-step c =
     step_of-word c.args.self.now.isa.now c.args.self.now.image.now (state_of c.args.self.now) c.in-Some.word.number
-      (nat_eq-false c.args.self.now.pc c.args.self.now.image.now.stop c.if-self.false)
-      (nat_eq-false c.args.self.now.pc c.args.self.now.image.now.full c.if-self-2.false)
-      c.in-Some.ensures.number
+    (nat_eq-false c.args.self.now.pc c.args.self.now.image.now.stop c.if-self.false)
+    (nat_eq-false c.args.self.now.pc c.args.self.now.image.now.full c.if-self-2.false)
+    c.in-Some.ensures.number
     ∙ ap (executed c.args.self.now.isa.now c.in-Some.word.number (state_of c.args.self.now)) (sym c.in-Some-decode.ensures.first)
 
 pub returns-in-Some-decode-clause-registers : goal.returns-in-Some-decode-clause-registers
 returns-in-Some-decode-clause-registers c =
     find-all (matches c.args.self.now.isa.now c.in-Some.word.number) (λ (instr : Instr). write_registers instr.writes) c.args.self.now.isa.now.instrs c.in-Some-decode.instr.now
-      c.args.self.now.memory_free (sym c.in-Some-decode.ensures.first)
+    c.args.self.now.memory_free (sym c.in-Some-decode.ensures.first)

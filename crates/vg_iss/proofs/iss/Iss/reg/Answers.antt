@@ -1,4 +1,4 @@
-use Rattle.std.proofs.Common.{◌≡◌, ℕ, ◌<◌, ◌^◌, length, get_or, sym, ap, ◌∙◌, subst, List, IsTrue, false, nat_eq}
+use Rattle.std.proofs.Common.{◌≡◌, ℕ, ◌<◌, length, get_or, sym, ap, ◌∙◌, subst, List, IsTrue, false, nat_eq}
 use Rattle.std.specs.Option.{option_map_or}
 use Rattle.vg_isa.specs.declared.isa.Parts.{Parts}
 use Rattle.vg_iss.specs.declared.iss.Iss.{Iss}
@@ -6,7 +6,7 @@ use Rattle.vg_bits.specs.BitValue.{BitValue}
 use Rattle.vg_isa.specs.declared.declaration.RegDecl.{RegDecl}
 use Rattle.vg_isa.specs.Declaration.{register_width, has_register}
 use Rattle.vg_image.specs.State.{register_number}
-use Rattle.vg_iss.specs.Simulator.{description_of, state_of}
+use Rattle.vg_iss.specs.Simulator.{state_of}
 use Rattle.vg_iss.proofs.Files.{KeepsFile, files_within, kept_file, number_fits, register_width-at}
 use Rattle.vg_iss.proofs.States.{register_number-at}
 use Rattle.vg_iss.proofs.iss.Iss.reg.Goals as goal
@@ -39,5 +39,5 @@ returns c =
     let unset : false ≡ option_map_or (λ (z : ℕ). nat_eq z c.args.i) c.index-as_slice-r.result.zero false = sym c.if-is_zero.false ∙ c.is_zero.ensures in
     let width : register_width c.args.self.now.isa.now.regs c.args.r.0 ≡ c.index-as_slice-r.result.width = register_width-at c.args.self.now.isa.now.regs c.args.r.0 c.index-as_slice-r.result file.declared in
     let number : register_number c.args.self.now.isa.now (state_of c.args.self.now) c.args.r.0 c.args.i ≡ get_or c.as_slice-numbers.result.now c.args.i 0 =
-        register_number-at c.args.self.now.isa.now (state_of c.args.self.now) c.args.r.0 c.args.i c.index-as_slice-r.result c.as_slice-numbers.result.now file.declared file.here unset in
+    register_number-at c.args.self.now.isa.now (state_of c.args.self.now) c.args.r.0 c.args.i c.index-as_slice-r.result c.as_slice-numbers.result.now file.declared file.here unset in
     c.of-2.ensures ∙ same_bits (sym width) (sym number)

@@ -7,7 +7,7 @@ use Rattle.vg_iss.specs.declared.iss.Iss.{Iss}
 use Rattle.std.specs.FinMap.{empty}
 use Rattle.vg_isa.specs.declared.declaration.RegDecl.{RegDecl}
 use Rattle.vg_image.specs.State.{State}
-use Rattle.vg_iss.specs.Simulator.{description_of, state_of}
+use Rattle.vg_iss.specs.Simulator.{state_of}
 use Rattle.vg_iss.proofs.Files.{KeepsFile, files_within, kept_file, set_fits, set_files, register_width-at}
 use Rattle.vg_iss.proofs.States.{register_written-at}
 use Rattle.vg_iss.proofs.iss.Iss.set.Goals as goal
@@ -19,25 +19,25 @@ kept self r i parts regs decl numbers same all is_decl here has =
 
 pub index_mut-numbers-requires : goal.index_mut-numbers-requires
 index_mut-numbers-requires c =
-    let within : c.args.r.0 < length c.args.self.now.registers.items = files_within c.args.self.now.isa.now.regs c.args.self.now.registers.items c.args.r.0 c.args.i c.args.self.now.numbers c.requires.register in
+    let within : c.args.r.0 < length c.args.self.now.registers.items = files_within c.args.self.now.isa.now.regs c.args.self.now.registers.items c.args.r.0 c.args.index c.args.self.now.numbers c.requires.register in
     subst (λ (n : ℕ). c.args.r.0 < n) (sym c.args.self.now.registers.ok.0) within
 
 pub set-requires : goal.set-requires
-set-requires c = (kept c.args.self.now c.args.r.0 c.args.i c.parts.result.now c.as_slice.result.now c.index-as_slice-r.result c.index_mut-numbers.result.now c.parts.ensures.same c.as_slice.ensures c.index-as_slice-r.is c.index_mut-numbers.ensures.value c.requires.register).within
+set-requires c = (kept c.args.self.now c.args.r.0 c.args.index c.parts.result.now c.as_slice.result.now c.index-as_slice-r.result c.index_mut-numbers.result.now c.parts.ensures.same c.as_slice.ensures c.index-as_slice-r.is c.index_mut-numbers.ensures.value c.requires.register).within
 
 pub invariant_of-self-clause-numbers : goal.invariant_of-self-clause-numbers
 invariant_of-self-clause-numbers c =
-    let file : KeepsFile c.args.self.now.isa.now.regs c.args.self.now.registers.items c.args.r.0 c.args.i c.index-as_slice-r.result c.index_mut-numbers.result.now = kept c.args.self.now c.args.r.0 c.args.i c.parts.result.now c.as_slice.result.now c.index-as_slice-r.result c.index_mut-numbers.result.now c.parts.ensures.same c.as_slice.ensures c.index-as_slice-r.is c.index_mut-numbers.ensures.value c.requires.register in
-    let now : c.set.new.self ≡ slice_set c.index_mut-numbers.result.now c.args.i c.args.value.number = c.set.ensures ∙ ap (λ (n : ℕ). slice_set c.index_mut-numbers.result.now c.args.i n) c.value-number.ensures.value in
+    let file : KeepsFile c.args.self.now.isa.now.regs c.args.self.now.registers.items c.args.r.0 c.args.index c.index-as_slice-r.result c.index_mut-numbers.result.now = kept c.args.self.now c.args.r.0 c.args.index c.parts.result.now c.as_slice.result.now c.index-as_slice-r.result c.index_mut-numbers.result.now c.parts.ensures.same c.as_slice.ensures c.index-as_slice-r.is c.index_mut-numbers.ensures.value c.requires.register in
+    let now : c.set.new.self ≡ slice_set c.index_mut-numbers.result.now c.args.index c.args.value.number = c.set.ensures ∙ ap (λ (n : ℕ). slice_set c.index_mut-numbers.result.now c.args.index n) c.value-number.ensures.value in
     let width : c.args.value.width ≡ c.index-as_slice-r.result.width = c.requires.width ∙ register_width-at c.args.self.now.isa.now.regs c.args.r.0 c.index-as_slice-r.result file.declared in
     let below : c.args.value.number < 2 ^ c.index-as_slice-r.result.width = subst (λ (w : ℕ). c.args.value.number < 2 ^ w) width c.value-number.ensures.below in
     set_files c.args.self.now.isa.now.regs c.args.self.now.registers.items c.args.r.0 c.index-as_slice-r.result c.set.new.self c.args.self.now.numbers file.declared
-      (subst (λ (xs : List ℕ). IsTrue (is_file_of c.index-as_slice-r.result xs)) (sym now) (set_fits c.index-as_slice-r.result c.index_mut-numbers.result.now c.args.i c.args.value.number file.fits below))
+    (subst (λ (xs : List ℕ). IsTrue (is_file_of c.index-as_slice-r.result xs)) (sym now) (set_fits c.index-as_slice-r.result c.index_mut-numbers.result.now c.args.index c.args.value.number file.fits below))
 
 pub returns-clause-state : goal.returns-clause-state
 returns-clause-state c =
-    let file : KeepsFile c.args.self.now.isa.now.regs c.args.self.now.registers.items c.args.r.0 c.args.i c.index-as_slice-r.result c.index_mut-numbers.result.now = kept c.args.self.now c.args.r.0 c.args.i c.parts.result.now c.as_slice.result.now c.index-as_slice-r.result c.index_mut-numbers.result.now c.parts.ensures.same c.as_slice.ensures c.index-as_slice-r.is c.index_mut-numbers.ensures.value c.requires.register in
-    let now : c.set.new.self ≡ slice_set c.index_mut-numbers.result.now c.args.i c.args.value.number = c.set.ensures ∙ ap (λ (n : ℕ). slice_set c.index_mut-numbers.result.now c.args.i n) c.value-number.ensures.value in
-    let unset : false ≡ option_map_or (λ (z : ℕ). nat_eq z c.args.i) c.index-as_slice-r.result.zero false = sym c.if-is_zero.false ∙ c.is_zero.ensures in
+    let file : KeepsFile c.args.self.now.isa.now.regs c.args.self.now.registers.items c.args.r.0 c.args.index c.index-as_slice-r.result c.index_mut-numbers.result.now = kept c.args.self.now c.args.r.0 c.args.index c.parts.result.now c.as_slice.result.now c.index-as_slice-r.result c.index_mut-numbers.result.now c.parts.ensures.same c.as_slice.ensures c.index-as_slice-r.is c.index_mut-numbers.ensures.value c.requires.register in
+    let now : c.set.new.self ≡ slice_set c.index_mut-numbers.result.now c.args.index c.args.value.number = c.set.ensures ∙ ap (λ (n : ℕ). slice_set c.index_mut-numbers.result.now c.args.index n) c.value-number.ensures.value in
+    let unset : false ≡ option_map_or (λ (z : ℕ). nat_eq z c.args.index) c.index-as_slice-r.result.zero false = sym c.if-is_zero.false ∙ c.is_zero.ensures in
     let written : List ℕ → State = λ (xs : List ℕ). record { pc = c.args.self.now.pc; registers = slice_set c.args.self.now.registers.items c.args.r.0 xs; bytes = empty } in
-    ap written now ∙ sym (register_written-at c.args.self.now.isa.now (state_of c.args.self.now) c.args.r.0 c.args.i c.args.value.number c.index-as_slice-r.result c.index_mut-numbers.result.now file.declared file.here unset)
+    ap written now ∙ sym (register_written-at c.args.self.now.isa.now (state_of c.args.self.now) c.args.r.0 c.args.index c.args.value.number c.index-as_slice-r.result c.index_mut-numbers.result.now file.declared file.here unset)
