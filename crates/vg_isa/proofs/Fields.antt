@@ -21,8 +21,8 @@ word_most d h = machine_width_most d.word (both _ _ (both _ _ (both _ _ (both _ 
 pub field_in_word : (d : Parts) (i j : ℕ) (format : Format) (field : FieldDecl) → IsTrue (is_isa d) → slice_get d.formats i ≡ Some format → slice_get format.fields j ≡ Some field → IsTrue (are_ranges d.word field.ranges)
 field_in_word d i j format field h at_format at_field =
     list_all-slice_get (λ (f : FieldDecl). are_ranges d.word f.ranges) format.fields j field
-      (list_all-slice_get (is_format d.word) d.formats i format (both _ _ (both _ _ h).0).1 at_format)
-      at_field
+    (list_all-slice_get (is_format d.word) d.formats i format (both _ _ (both _ _ h).0).1 at_format)
+    at_field
 
 test_le : (m n : ℕ) → nat_le m n ≡ true → m ≤ n
 test_le m n h = grind (arith, nat_tests)

@@ -13,6 +13,7 @@ use Rattle.vg_isa.specs.declared.operator.CastOp.TheVariants.{Extend, SignExtend
 use Rattle.vg_isa.specs.declared.ids.ResourceId.{ResourceId}
 use Rattle.vg_isa.specs.declared.ids.ResourceId.TheVariants.{Memory, Reg}
 use Rattle.vg_isa.specs.declared.instr.Write.{Write}
+use Rattle.vg_isa.specs.declared.write_made.Made.{Made}
 use Rattle.vg_isa.specs.declared.instr.Instr.{Instr}
 use Rattle.vg_isa.specs.declared.format.Format.{Format}
 use Rattle.vg_isa.specs.declared.format.FieldDecl.{FieldDecl}
@@ -88,6 +89,16 @@ is_write_of d (Reg r) None value = is_single d.regs r.0 && has_width d (register
 
 abbrev pub is_write : Parts → Write → Bool
 is_write d write = has_width d 1 write.guard && is_write_of d write.resource write.at write.value
+
+-- an index or address and a value have the widths that the resource needs
+abbrev pub is_made_of : Parts → ResourceId → Option BitValue → BitValue → Bool
+is_made_of d Memory (Some at) value = nat_eq at.width d.pc.width && is_bytes value.width
+is_made_of d Memory None value = false
+is_made_of d (Reg r) (Some at) value = is_file d.regs r.0 at.width && nat_eq value.width (register_width d.regs r.0)
+is_made_of d (Reg r) None value = is_single d.regs r.0 && nat_eq value.width (register_width d.regs r.0)
+
+abbrev pub is_made : Parts → Made → Bool
+is_made d made = is_made_of d made.resource made.at made.value
 
 -- the encoding fixes fields of the description at their widths, and the trees are typed
 abbrev pub is_instr : Parts → Instr → Bool

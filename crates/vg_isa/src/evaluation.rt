@@ -1,15 +1,15 @@
-use crate::expr::Expr;
-use crate::word_field::field;
-use crate::ids::RegId;
-use crate::isa::Isa;
-use crate::operator::{BinOp, CastOp, UnOp};
-use crate::view::View;
-use vg_bits::{Bits, Width};
-
 ghost use Rattle.std.specs.Prelude.{◌≡◌, ◌+◌, ◌-◌, ◌<◌, ◌≤◌, ◌^◌, IsTrue};
 ghost use Rattle.vg_isa.specs.Declaration.{is_file, is_single, register_width};
 ghost use Rattle.vg_isa.specs.Typing.{is_typed, width_of, binary_fits, cast_fits};
 ghost use Rattle.vg_isa.specs.Value.{value_of, binary_value, unary_value, cast_value, flag, holds, HasDeclaredWidths};
+
+use crate::expr::Expr;
+use crate::ids::RegId;
+use crate::isa::Isa;
+use crate::operator::{BinOp, CastOp, UnOp};
+use crate::view::View;
+use crate::word_field::field;
+use vg_bits::{Bits, Width};
 
 /// A Bool as a bit value of width 1.
 #[inline(always)]

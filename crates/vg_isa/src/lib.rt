@@ -26,7 +26,6 @@ mod declaration;
 mod effect;
 mod evaluation;
 mod expr;
-
 mod format;
 mod ids;
 mod instr;
@@ -38,19 +37,18 @@ mod write_made;
 
 pub use abi::{Abi, Act, Micro, Stage};
 pub use declaration::{PcDecl, RegDecl};
-pub use effect::{made, next_pc};
+pub use effect::{made, make, next_of, next_pc};
 pub use evaluation::eval;
 pub use expr::Expr;
-pub use word_field::field;
 pub use format::{FieldDecl, Format};
 pub use ids::{FieldId, FormatId, InstrId, RegId, ResourceId};
 pub use instr::{Instr, Part, Write};
 pub use isa::{Isa, Parts};
 pub use operator::{BinOp, CastOp, UnOp};
-pub use view::View;
-pub use write_made::Made;
-
 use sqlite_items::Items;
+pub use view::View;
+pub use word_field::field;
+pub use write_made::Made;
 
 /// A text as its bytes, which contracts see as a list.
 pub type Text = Items<u8>;

@@ -1,10 +1,10 @@
-use crate::ids::RegId;
-use vg_bits::Bits;
-
 ghost use Rattle.std.specs.Prelude.{◌≡◌, ◌<◌, ◌≤◌, List, IsTrue};
 ghost use Rattle.vg_isa.specs.declared.declaration.RegDecl.{RegDecl};
 ghost use Rattle.vg_isa.specs.Declaration.{has_register};
 ghost use Rattle.vg_isa.specs.Value.{Reads, memory_value};
+
+use crate::ids::RegId;
+use vg_bits::Bits;
 
 /// A machine state, as behaviours read it.
 pub trait View {

@@ -1,9 +1,9 @@
+ghost use Rattle.std.specs.Prelude.{◌≡◌, ◌+◌, ◌*◌, ◌<◌, ◌≤◌, ◌^◌, IsTrue, length};
+ghost use Rattle.vg_isa.specs.Declaration.{field_of, has_field, are_in_word, bits_in, bits_of};
+
 use crate::ids::FieldId;
 use crate::isa::Isa;
 use vg_bits::Bits;
-
-ghost use Rattle.std.specs.Prelude.{◌≡◌, ◌+◌, ◌*◌, ◌<◌, ◌≤◌, ◌^◌, IsTrue, length};
-ghost use Rattle.vg_isa.specs.Declaration.{field_of, has_field, are_in_word, bits_in, bits_of};
 
 /// Bits with those of the word in more ranges below them.
 #[inline(never)]
@@ -11,8 +11,9 @@ fn join_ranges(bits: Bits, ranges: &[(u8, u8)], word: Bits) -> Bits
     requires fits { bits.width + bits_of ranges.now ≤ 128 }
     requires ranges { IsTrue (are_in_word word.width ranges.now) }
     ensures { result ≡ record {
-        width = bits.width + bits_of ranges.now;
-        number = bits.number * 2 ^ bits_of ranges.now + bits_in ranges.now word.number } }
+      width = bits.width + bits_of ranges.now;
+      number = bits.number * 2 ^ bits_of ranges.now + bits_in ranges.now word.number;
+    } }
 {
     let mut joined = bits;
     for (high, low) in ranges {

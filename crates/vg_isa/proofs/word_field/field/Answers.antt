@@ -9,7 +9,7 @@ in_word : (c : goal.After-as_slice) → IsTrue (are_ranges c.args.isa.now.word c
 in_word c =
     let typed = c.parts-parts.ensures.typed in
     let format : slice_get c.args.isa.now.formats c.args.f.format.0 ≡ Some c.in-Some.format.now =
-        ap (λ (d : Parts). slice_get d.formats c.args.f.format.0) (sym c.parts-parts.ensures.same) ∙ sym c.get.ensures.value ∙ ap option_copied c.in-Some.is in
+    ap (λ (d : Parts). slice_get d.formats c.args.f.format.0) (sym c.parts-parts.ensures.same) ∙ sym c.get.ensures.value ∙ ap option_copied c.in-Some.is in
     let field : slice_get c.in-Some.format.now.fields c.args.f.index ≡ Some c.in-Some-get.field.now = sym c.get-in-Some.ensures.value ∙ ap option_copied c.in-Some-get.is in
     rw c.as_slice.ensures (field_in_word c.args.isa.now c.args.f.format.0 c.args.f.index c.in-Some.format.now c.in-Some-get.field.now typed format field)
 
