@@ -91,14 +91,25 @@ fn refusals(rt: HostRuntime) -> Result<(), Fail> {
     for case in 0..12 {
         let (at, text, line) = wrong_line(case);
         let text = with_line(rt.alloc(), at, text)?;
-        assert_eq!(rt; refusal(rt.alloc(), &isa, text.as_slice()), Some(ImageFault::Line { line }), "case {case}");
+        assert_eq!(rt;
+            refusal(rt.alloc(), &isa, text.as_slice()),
+            Some(ImageFault::Line { line }),
+            "case {case}"
+        );
     }
     for case in 0..3 {
         let (at, text, line) = unbuilt_line(case);
         let text = with_line(rt.alloc(), at, text)?;
-        assert_eq!(rt; refusal(rt.alloc(), &isa, text.as_slice()), Some(ImageFault::NotBuilt { line }), "case {case}");
+        assert_eq!(rt;
+            refusal(rt.alloc(), &isa, text.as_slice()),
+            Some(ImageFault::NotBuilt { line }),
+            "case {case}"
+        );
     }
-    assert_eq!(rt; refusal(rt.alloc(), &isa, b""), Some(ImageFault::Line { line: 1 }));
+    assert_eq!(rt;
+        refusal(rt.alloc(), &isa, b""),
+        Some(ImageFault::Line { line: 1 })
+    );
     Ok(())
 }
 
@@ -152,6 +163,9 @@ fn code_at_the_top_of_64_bits(rt: HostRuntime) -> Result<(), Fail> {
     let fits = at_the_top(rt.alloc(), 2)?;
     assert_eq!(rt; refusal(rt.alloc(), &isa, fits.as_slice()), None);
     let passes = at_the_top(rt.alloc(), 3)?;
-    assert_eq!(rt; refusal(rt.alloc(), &isa, passes.as_slice()), Some(ImageFault::Line { line: 8 }));
+    assert_eq!(rt;
+        refusal(rt.alloc(), &isa, passes.as_slice()),
+        Some(ImageFault::Line { line: 8 })
+    );
     Ok(())
 }
