@@ -2,7 +2,7 @@
 use Rattle.std.proofs.Common.{◌≡◌, ℕ, zero, suc, ◌+◌, ◌-◌, ◌^◌, ◌<◌, ◌≤◌, List, [], ◌∷◌, ◌++◌, length, Option, Some, None, refl, ap, sym, ◌∙◌, subst, inl, inr, append_assoc, arith}
 use Rattle.std.specs.Prelude.{codes, flat_map}
 use Rattle.std.specs.List.{AllByRecursion}
-use Rattle.std.proofs.lemmas.Option.{none-some, same_Some}
+use Rattle.std.proofs.lemmas.Option.{same_Some}
 use Rattle.std.proofs.lemmas.List.{append-nil}
 use Rattle.std.proofs.lemmas.List.Concat.{flat_map-cons}
 use Rattle.vg_text.specs.Number.{hexadecimal}
@@ -114,21 +114,21 @@ are_lines digits zero text x is = subst (AreLines digits 0 text) (same_Some ([],
 are_lines digits (suc room) text x is =
     let Read : List ℕ × List ℕ → Type 0 = AreLines digits (suc room) text in
     elim (cases_option (rest_after (codes "code ") text)) [
-        inl none ↦ subst Read (same_Some ([], text) x (sym (code_lines_at-none digits (suc room) text none) ∙ is)) (record { spelled = refl; words = tt; within = omega arith })
+      | inl none ↦ subst Read (same_Some ([], text) x (sym (code_lines_at-none digits (suc room) text none) ∙ is)) (record { spelled = refl; words = tt; within = omega arith })
       | inr w ↦
-            bind_elim (word_line_at digits w.0) (λ word. with_word word.0 (code_lines_at digits room word.1)) x (Read x) (sym (code_lines_at-some digits room text w.0 w.1) ∙ is)
-                (λ word first then. bind_elim (code_lines_at digits room word.1) (λ read. Some (word.0 ∷ read.0, read.1)) x (Read x) then
-                    (λ read others made.
-                        let number = spelled-word_line_at digits w.0 word first in
-                        let tail = are_lines digits room word.1 read others in
-                        subst Read (same_Some (word.0 ∷ read.0, read.1) x made)
-                            (record {
-                                spelled = append-rest_after (codes "code ") text w.0 w.1
-                                    ∙ ap (λ t. codes "code " ++ t) (number.0 ∙ ap (λ t. hexadecimal digits word.0 ++ 10 ∷ t) tail.spelled)
-                                    ∙ sym (lines_first digits word.0 read.0 read.1);
-                                words = (number.1, tail.words);
-                                within = omega (arith, tail.within);
-                            })))
+          bind_elim (word_line_at digits w.0) (λ word. with_word word.0 (code_lines_at digits room word.1)) x (Read x) (sym (code_lines_at-some digits room text w.0 w.1) ∙ is)
+          (λ word first then. bind_elim (code_lines_at digits room word.1) (λ read. Some (word.0 ∷ read.0, read.1)) x (Read x) then
+          (λ read others made.
+          let number = spelled-word_line_at digits w.0 word first in
+          let tail = are_lines digits room word.1 read others in
+          subst Read (same_Some (word.0 ∷ read.0, read.1) x made)
+          (record {
+            spelled = append-rest_after (codes "code ") text w.0 w.1
+                ∙ ap (λ t. codes "code " ++ t) (number.0 ∙ ap (λ t. hexadecimal digits word.0 ++ 10 ∷ t) tail.spelled)
+                ∙ sym (lines_first digits word.0 read.0 read.1);
+            words = (number.1, tail.words);
+            within = omega (arith, tail.within);
+          })))
     ]
 
 pub code_lines_at-spelled : (digits room : ℕ) (words rest : List ℕ) → AllByRecursion (λ word. word < 16 ^ digits) words → length words ≤ room → rest_after (codes "code ") rest ≡ None

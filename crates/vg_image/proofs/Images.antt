@@ -1,5 +1,5 @@
 -- The two laws of images: what is read is spelled so, and what is spelled so is read.
-use Rattle.std.proofs.Common.{◌≡◌, ℕ, ◌+◌, ◌-◌, ◌*◌, ◌/◌, ◌%◌, ◌^◌, ◌<◌, ◌≤◌, List, [], ◌∷◌, ◌++◌, All, length, Option, Some, None, refl, ap, sym, ◌∙◌, subst, append_assoc, arith}
+use Rattle.std.proofs.Common.{◌≡◌, ℕ, ◌+◌, ◌*◌, ◌/◌, ◌%◌, ◌^◌, ◌<◌, ◌≤◌, List, [], ◌∷◌, ◌++◌, All, length, Some, None, refl, ap, sym, ◌∙◌, subst, append_assoc, arith}
 use Rattle.std.specs.Prelude.{codes, flat_map, IsTrue}
 use Rattle.std.specs.List.{AllByRecursion, range_with_len}
 use Rattle.std.proofs.lemmas.Option.{none-some, same_Some}
@@ -15,10 +15,10 @@ use Rattle.vg_image.specs.declared.image_fault.ImageFault.TheVariants as faults
 use Rattle.vg_image.specs.Step.{word_bytes}
 use Rattle.vg_image.specs.Spelling.{IsImage, IsSymbol, spelling, code_line, bytes_line, symbol_line, address_line}
 use Rattle.vg_image.specs.Reading.{IsSpelled, IsNoImage, IsRefusalOf, Refuses}
-use Rattle.vg_image.specs.Reader.{◌>>=◌, fixed_line_at, base_line_at, address_line_at, code_lines_at, room_of, ended, image_at}
+use Rattle.vg_image.specs.Reader.{fixed_line_at, base_line_at, address_line_at, code_lines_at, room_of, ended, image_at}
 use Rattle.vg_image.proofs.Bind.{bind_elim}
 use Rattle.vg_image.proofs.Lines.{address_spelled, fixed_line_at-spelled, spelled-fixed_line_at, address_line_at-spelled, spelled-address_line_at, base_line_at-spelled, spelled-base_line_at}
-use Rattle.vg_image.proofs.CodeLines.{line, AreLines, are_lines, code_lines_at-spelled}
+use Rattle.vg_image.proofs.CodeLines.{line, are_lines, code_lines_at-spelled}
 use Rattle.vg_image.proofs.Widths.{AreWidths, are_widths, address_space, word_space, ends_from_room, room_from_ends}
 
 -- ---- the spelling from left to right
@@ -59,7 +59,7 @@ regroup_line word zero_x number feed rest = simp append_assoc refl
 
 regroup_all : (image name feed base entry stop full code more bytes symbols «end» : List ℕ) → bytes ≡ [] → symbols ≡ []
     → image ++ name ++ feed ++ base ++ entry ++ stop ++ full ++ code ++ more ++ bytes ++ symbols ++ «end» ++ feed
-        ≡ image ++ (name ++ (feed ++ (base ++ (entry ++ (stop ++ (full ++ (code ++ (more ++ («end» ++ feed)))))))))
+    ≡ image ++ (name ++ (feed ++ (base ++ (entry ++ (stop ++ (full ++ (code ++ (more ++ («end» ++ feed)))))))))
 regroup_all image name feed base entry stop full code more bytes symbols «end» no_bytes no_symbols = rw (no_bytes, no_symbols) (simp append_assoc refl)
 
 address_line-append : (d : Parts) (word : List ℕ) (at : ℕ) (rest : List ℕ) → address_line d word at ++ rest ≡ address_then d word at rest
@@ -72,14 +72,14 @@ pub spelling-nested : (d : Parts) (i : Image) → i.bytes ≡ [] → i.symbols �
 unfolding spelling
 spelling-nested d i no_bytes no_symbols =
     regroup_all (codes "image ") d.name (10 ∷ []) (address_line d (codes "base ") i.base) (address_line d (codes "entry ") i.entry) (address_line d (codes "stop ") i.stop) (address_line d (codes "full ") i.full)
-        (flat_map (code_line d) i.code) (address_line d (codes "data ") i.data_base) (flat_map (bytes_line i.bytes) (range_with_len 0 ((length i.bytes + 15) / 16))) (flat_map (symbol_line d) i.symbols) (codes "end")
-        (no_bytes_text i.bytes no_bytes) (ap (λ ss. flat_map (symbol_line d) ss) no_symbols)
+    (flat_map (code_line d) i.code) (address_line d (codes "data ") i.data_base) (flat_map (bytes_line i.bytes) (range_with_len 0 ((length i.bytes + 15) / 16))) (flat_map (symbol_line d) i.symbols) (codes "end")
+    (no_bytes_text i.bytes no_bytes) (ap (λ ss. flat_map (symbol_line d) ss) no_symbols)
     ∙ ap (λ t. codes "image " ++ (d.name ++ 10 ∷ t))
-        (address_line-append d (codes "base ") i.base _ ∙ ap (address_then d (codes "base ") i.base)
-            (address_line-append d (codes "entry ") i.entry _ ∙ ap (address_then d (codes "entry ") i.entry)
-                (address_line-append d (codes "stop ") i.stop _ ∙ ap (address_then d (codes "stop ") i.stop)
-                    (address_line-append d (codes "full ") i.full _ ∙ ap (address_then d (codes "full ") i.full)
-                        (ap (λ t. flat_map (code_line d) i.code ++ t) (address_line-append d (codes "data ") i.data_base end_spelled))))))
+    (address_line-append d (codes "base ") i.base _ ∙ ap (address_then d (codes "base ") i.base)
+    (address_line-append d (codes "entry ") i.entry _ ∙ ap (address_then d (codes "entry ") i.entry)
+    (address_line-append d (codes "stop ") i.stop _ ∙ ap (address_then d (codes "stop ") i.stop)
+    (address_line-append d (codes "full ") i.full _ ∙ ap (address_then d (codes "full ") i.full)
+    (ap (λ t. flat_map (code_line d) i.code ++ t) (address_line-append d (codes "data ") i.data_base end_spelled))))))
 
 -- ---- what is spelled so is read
 
@@ -94,13 +94,13 @@ image_at-spelled d i widths is no_bytes no_symbols =
     let word_space : 16 ^ (2 * word_bytes d) ≡ 2 ^ d.word = word_space d.word widths.word in
     let words : AllByRecursion (λ word. word < 16 ^ (2 * word_bytes d)) i.code = subst (λ (m : ℕ). AllByRecursion (λ word. word < m) i.code) (sym word_space) (recursion_from_All (λ word. word < 2 ^ d.word) i.code is.words) in
     rw (fixed_line_at-spelled (codes "image ") d.name (base_spelled d i))
-        (rw (base_line_at-spelled (word_bytes d) (digits_of d) i.base (entry_spelled d i) (omega (arith, space, is.base)) is.aligned)
-            (rw (address_line_at-spelled (codes "entry ") (digits_of d) i.entry (stop_spelled d i) (omega (arith, space, is.entry)))
-                (rw (address_line_at-spelled (codes "stop ") (digits_of d) i.stop (full_spelled d i) (omega (arith, space, is.stop)))
-                    (rw (address_line_at-spelled (codes "full ") (digits_of d) i.full (code_spelled d i) (omega (arith, space, is.full)))
-                        (rw (code_lines_at-spelled (2 * word_bytes d) (room_of d i.base) i.code (data_spelled d i) words (room_from_ends d.word i.base (2 ^ d.pc.width) (length i.code) widths.word is.code_end) (no_code d i))
-                            (rw (address_line_at-spelled (codes "data ") (digits_of d) i.data_base end_spelled (omega (arith, space, is.data_base)))
-                                (rw (fixed_line_at-spelled (codes "end") [] []) refl)))))))
+    (rw (base_line_at-spelled (word_bytes d) (digits_of d) i.base (entry_spelled d i) (omega (arith, space, is.base)) is.aligned)
+    (rw (address_line_at-spelled (codes "entry ") (digits_of d) i.entry (stop_spelled d i) (omega (arith, space, is.entry)))
+    (rw (address_line_at-spelled (codes "stop ") (digits_of d) i.stop (full_spelled d i) (omega (arith, space, is.stop)))
+    (rw (address_line_at-spelled (codes "full ") (digits_of d) i.full (code_spelled d i) (omega (arith, space, is.full)))
+    (rw (code_lines_at-spelled (2 * word_bytes d) (room_of d i.base) i.code (data_spelled d i) words (room_from_ends d.word i.base (2 ^ d.pc.width) (length i.code) widths.word is.code_end) (no_code d i))
+    (rw (address_line_at-spelled (codes "data ") (digits_of d) i.data_base end_spelled (omega (arith, space, is.data_base)))
+    (rw (fixed_line_at-spelled (codes "end") [] []) refl)))))))
 
 -- an image without data and symbols, as its other parts
 abbrev bare : Image → Image
@@ -180,19 +180,19 @@ lines_put d text named base entry stop full code data_base rest i is_named is_ba
     let at_entry : base.1 ≡ entry_spelled d made = entry_line.0 ∙ ap (address_then d (codes "entry ") entry.0) at_stop in
     let at_base : named ≡ base_spelled d made = base_line.0.0 ∙ ap (address_then d (codes "base ") base.0) at_entry in
     subst (Lines d text) done.1
-        (record {
-            spelled = spelled-fixed_line_at (codes "image ") d.name text named is_named ∙ ap (λ t. codes "image " ++ (d.name ++ 10 ∷ t)) at_base;
-            no_bytes = refl;
-            no_symbols = refl;
-            aligned = base_line.1;
-            base = base_line.0.1;
-            entry = entry_line.1;
-            stop = stop_line.1;
-            full = full_line.1;
-            data_base = data_line.1;
-            words = code_read.words;
-            within = code_read.within;
-        })
+    (record {
+      spelled = spelled-fixed_line_at (codes "image ") d.name text named is_named ∙ ap (λ t. codes "image " ++ (d.name ++ 10 ∷ t)) at_base;
+      no_bytes = refl;
+      no_symbols = refl;
+      aligned = base_line.1;
+      base = base_line.0.1;
+      entry = entry_line.1;
+      stop = stop_line.1;
+      full = full_line.1;
+      data_base = data_line.1;
+      words = code_read.words;
+      within = code_read.within;
+    })
 
 lines_read : (d : Parts) (text : List ℕ) (i : Image) → image_at d text ≡ Some i → Lines d text i
 unfolding image_at
@@ -217,19 +217,19 @@ image_at-read d text i typed is =
     let space : 16 ^ digits_of d ≡ 2 ^ d.pc.width = address_space d.pc.width widths.pc in
     let read = lines_read d text i is in
     record {
-        image = record {
-            aligned = read.aligned;
-            base = omega (arith, space, read.base);
-            entry = omega (arith, space, read.entry);
-            stop = omega (arith, space, read.stop);
-            full = omega (arith, space, read.full);
-            data_base = omega (arith, space, read.data_base);
-            words = All-from_recursion (λ word. word < 2 ^ d.word) i.code (subst (λ (m : ℕ). AllByRecursion (λ word. word < m) i.code) (word_space d.word widths.word) read.words);
-            code_end = ends_from_room d.word i.base (2 ^ d.pc.width) (length i.code) widths.word (omega (arith, space, read.base)) read.within;
-            symbols = no_symbols_all d i.symbols read.no_symbols;
-            data_end = omega (arith, space, read.data_base, ap (λ (bs : List ℕ). length bs) read.no_bytes);
-        };
-        no_bytes = read.no_bytes;
-        no_symbols = read.no_symbols;
-        text = read.spelled ∙ sym (spelling-nested d i read.no_bytes read.no_symbols);
+      image = record {
+        aligned = read.aligned;
+        base = omega (arith, space, read.base);
+        entry = omega (arith, space, read.entry);
+        stop = omega (arith, space, read.stop);
+        full = omega (arith, space, read.full);
+        data_base = omega (arith, space, read.data_base);
+        words = All-from_recursion (λ word. word < 2 ^ d.word) i.code (subst (λ (m : ℕ). AllByRecursion (λ word. word < m) i.code) (word_space d.word widths.word) read.words);
+        code_end = ends_from_room d.word i.base (2 ^ d.pc.width) (length i.code) widths.word (omega (arith, space, read.base)) read.within;
+        symbols = no_symbols_all d i.symbols read.no_symbols;
+        data_end = omega (arith, space, read.data_base, ap (λ (bs : List ℕ). length bs) read.no_bytes);
+      };
+      no_bytes = read.no_bytes;
+      no_symbols = read.no_symbols;
+      text = read.spelled ∙ sym (spelling-nested d i read.no_bytes read.no_symbols);
     }

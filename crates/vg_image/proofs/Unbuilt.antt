@@ -1,5 +1,5 @@
 -- Looking for a line of data or of a symbol in a loop.
-use Rattle.std.proofs.Common.{◌≡◌, ◌≢◌, ℕ, ◌+◌, ◌<◌, ◌≤◌, Bool, true, false, ◌&&◌, ◌||◌, eqb, List, [], ◌∷◌, length, drop, get_or, refl, ap, sym, ◌∙◌}
+use Rattle.std.proofs.Common.{◌≡◌, ◌≢◌, ℕ, ◌+◌, ◌<◌, ◌≤◌, true, false, ◌&&◌, ◌||◌, eqb, List, ◌∷◌, length, drop, get_or, refl, ap, sym, ◌∙◌}
 use Rattle.std.proofs.lemmas.Bool.{eq-eqb, ne_eqb}
 use Rattle.std.proofs.lemmas.List.{drop_more, drop_all}
 use Rattle.vg_image.specs.Reading.{begins_unbuilt, follows_unbuilt}
@@ -20,8 +20,8 @@ follows_other text i within other =
 pub follows_line : (text : List ℕ) (i : ℕ) → i < length text → get_or text i 0 ≡ 10 → begins_unbuilt (drop (i + 1) text) ≡ false → follows_unbuilt (drop (i + 1) text) ≡ follows_unbuilt (drop i text)
 follows_line text i within feed clear =
     sym (follows_at text i within
-        ∙ ap (λ b. (b && begins_unbuilt (drop (i + 1) text)) || follows_unbuilt (drop (i + 1) text)) (eq-eqb (get_or text i 0) 10 feed)
-        ∙ ap (λ b. b || follows_unbuilt (drop (i + 1) text)) clear)
+    ∙ ap (λ b. (b && begins_unbuilt (drop (i + 1) text)) || follows_unbuilt (drop (i + 1) text)) (eq-eqb (get_or text i 0) 10 feed)
+    ∙ ap (λ b. b || follows_unbuilt (drop (i + 1) text)) clear)
 
 -- a line feed, and a line of data or of a symbol behind it
 pub follows_here : (text : List ℕ) (i : ℕ) → i < length text → get_or text i 0 ≡ 10 → begins_unbuilt (drop (i + 1) text) ≡ true → follows_unbuilt (drop i text) ≡ true

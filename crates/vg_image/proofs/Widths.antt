@@ -1,5 +1,5 @@
 -- The widths of a description: an address has a digit for each four bits, and a code word two for each byte.
-use Rattle.std.proofs.Common.{◌≡◌, ℕ, ◌+◌, ◌-◌, ◌*◌, ◌/◌, ◌^◌, ◌<◌, ◌≤◌, ◌⊎◌, ◌&&◌, ◌||◌, eqb, Bool, refl, ap, sym, subst, inl, inr, arith}
+use Rattle.std.proofs.Common.{◌≡◌, ℕ, ◌+◌, ◌-◌, ◌*◌, ◌/◌, ◌^◌, ◌≤◌, ◌⊎◌, ◌&&◌, refl, sym, subst, inl, inr, arith}
 use Rattle.std.specs.Prelude.{IsTrue}
 use Rattle.std.specs.List.{list_all}
 use Rattle.std.proofs.lemmas.Bool.Decides.{nat_tests}
@@ -40,18 +40,18 @@ pub ends_from_room : (n base space count : ℕ) → IsMachineWidth n → base �
 ends_from_room n base space count is within room =
     let P : ℕ → Type 0 = λ m. count ≤ (space - base) / (m / 8) → base + (m / 8) * count ≤ space in
     let at : P n =
-        elim is [
-            inl e ↦ subst P (sym e) (λ r. omega (arith, r))
-          | inr w ↦ elim w [ inl e ↦ subst P (sym e) (λ r. omega (arith, r)) | inr e ↦ subst P (sym e) (λ r. omega (arith, r)) ]
-        ] in
+    elim is [
+      | inl e ↦ subst P (sym e) (λ r. omega (arith, r))
+      | inr w ↦ elim w [ inl e ↦ subst P (sym e) (λ r. omega (arith, r)) | inr e ↦ subst P (sym e) (λ r. omega (arith, r)) ]
+    ] in
     at room
 
 pub room_from_ends : (n base space count : ℕ) → IsMachineWidth n → base + (n / 8) * count ≤ space → count ≤ (space - base) / (n / 8)
 room_from_ends n base space count is ends =
     let P : ℕ → Type 0 = λ m. base + (m / 8) * count ≤ space → count ≤ (space - base) / (m / 8) in
     let at : P n =
-        elim is [
-            inl e ↦ subst P (sym e) (λ r. omega (arith, r))
-          | inr w ↦ elim w [ inl e ↦ subst P (sym e) (λ r. omega (arith, r)) | inr e ↦ subst P (sym e) (λ r. omega (arith, r)) ]
-        ] in
+    elim is [
+      | inl e ↦ subst P (sym e) (λ r. omega (arith, r))
+      | inr w ↦ elim w [ inl e ↦ subst P (sym e) (λ r. omega (arith, r)) | inr e ↦ subst P (sym e) (λ r. omega (arith, r)) ]
+    ] in
     at ends

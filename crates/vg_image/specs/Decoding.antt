@@ -1,7 +1,6 @@
 -- Which instruction a word is.
-use Rattle.std.specs.Prelude.{ℕ, Bool, ◌&&◌, nat_eq, Option, position}
+use Rattle.std.specs.Prelude.{ℕ, Bool, nat_eq, Option, position}
 use Rattle.std.specs.List.{list_all}
-use Rattle.vg_bits.specs.BitValue.{BitValue}
 use Rattle.vg_isa.specs.declared.isa.Parts.{Parts}
 use Rattle.vg_isa.specs.declared.instr.Instr.{Instr}
 use Rattle.vg_isa.specs.Declaration.{field_of}

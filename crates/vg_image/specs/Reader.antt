@@ -65,7 +65,7 @@ unfoldable pub code_lines_at : ℕ → ℕ → List ℕ → Option (List ℕ × 
 code_lines_at digits zero text = Some ([], text)
 code_lines_at digits (suc room) text =
     elim (rest_after (codes "code ") text) [
-        None ↦ Some ([], text)
+      | None ↦ Some ([], text)
       | Some behind ↦ word_line_at digits behind >>= (λ word. with_word word.0 (code_lines_at digits room word.1))
     ]
 

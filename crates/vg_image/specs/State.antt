@@ -1,5 +1,5 @@
 -- The state of a machine: what it reads, and how a write changes it.
-use Rattle.std.specs.Prelude.{ℕ, zero, suc, ◌+◌, ◌*◌, ◌/◌, ◌%◌, ◌^◌, Bool, true, false, nat_eq, List, [], ◌∷◌, map, replicate, Option, Some, None, slice_get, slice_set, slice_index, unwrap_or, if◌then◌else◌}
+use Rattle.std.specs.Prelude.{ℕ, zero, suc, ◌+◌, ◌/◌, ◌%◌, ◌^◌, Bool, false, nat_eq, List, [], ◌∷◌, map, replicate, Option, Some, None, slice_get, slice_set, slice_index, unwrap_or, if◌then◌else◌}
 use Rattle.std.specs.Option.{option_map_or}
 use Rattle.std.specs.Ordering.{nat_cmp}
 use Rattle.std.specs.FinMap.{FinMap, empty, get, insert}

@@ -1,5 +1,5 @@
 -- One step of an image: an instruction, or the reason why none is done.
-use Rattle.std.specs.Prelude.{ℕ, ◌-◌, ◌*◌, ◌/◌, ◌%◌, Bool, true, false, ◌&&◌, nat_eq, nat_le, List, Option, Some, None, slice_get, if◌then◌else◌}
+use Rattle.std.specs.Prelude.{ℕ, ◌-◌, ◌/◌, ◌%◌, ◌&&◌, nat_eq, nat_le, Option, Some, None, slice_get, if◌then◌else◌}
 use Rattle.vg_isa.specs.declared.isa.Parts.{Parts}
 use Rattle.vg_isa.specs.declared.instr.Instr.{Instr}
 use Rattle.vg_image.specs.declared.image.Image.{Image}

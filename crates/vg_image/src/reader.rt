@@ -136,7 +136,12 @@ fn base_line(bytes: u8, digits: u8, text: &[u8]) -> Result<(u64, &[u8]), Refusal
 }
 
 /// The lines of code words, at most so many, and what follows them.
-fn code_lines(alloc: Global, digits: u8, room: u64, text: &[u8]) -> Result<(Items<u64>, &[u8]), Refusal>
+fn code_lines(
+    alloc: Global,
+    digits: u8,
+    room: u64,
+    text: &[u8],
+) -> Result<(Items<u64>, &[u8]), Refusal>
     requires { digits ≤ 16 }
     ensures { Reader.Gives (λ found. (found.0, found.1.now)) result (Reader.code_lines_at digits room text.now) }
 {
@@ -241,5 +246,4 @@ fn begins_unbuilt(text: &[u8]) -> bool
 /// Two images that one text spells are one image.
 pub fn one_image()
     ensures { (d : Parts) (text : List ℕ) (i j : Image) → IsTrue (is_isa d) → IsSpelled d text i → IsSpelled d text j → i ≡ j }
-{
-}
+{}

@@ -1,5 +1,5 @@
 use Rattle.std.proofs.Common.{sym, ◌∙◌}
-use Rattle.vg_image.proofs.Unbuilt.{follows_other, follows_line, follows_here, follows_none}
+use Rattle.vg_image.proofs.Unbuilt.{follows_none}
 use Rattle.vg_image.proofs.reader.unbuilt_line.Goals as goal
 
 pub returns : goal.returns
