@@ -1,6 +1,6 @@
 -- The descriptions that are read so far: a name, and instructions with one of two behaviours and with
 -- numbers for three fields of their encoding.
-use Rattle.std.specs.Prelude.{ℕ, ◌^◌, Bool, ◌&&◌, nat_lt, List, [], ◌∷◌, map, codes, Option, Some, None}
+use Rattle.std.specs.Prelude.{ℕ, ◌^◌, Bool, ◌&&◌, nat_lt, List, [], ◌∷◌, map, codes, Some, None}
 use Rattle.vg_bits.specs.BitValue.{BitValue}
 use Rattle.vg_isa.specs.declared.isa.Parts.{Parts}
 use Rattle.vg_isa.specs.declared.format.Format.{Format}
@@ -9,7 +9,7 @@ use Rattle.vg_isa.specs.declared.declaration.RegDecl.{RegDecl}
 use Rattle.vg_isa.specs.declared.instr.Instr.{Instr}
 use Rattle.vg_isa.specs.declared.instr.Write.{Write}
 use Rattle.vg_isa.specs.declared.ids.FieldId.{FieldId}
-use Rattle.vg_isa.specs.declared.ids.ResourceId.TheVariants.{Memory, Reg}
+use Rattle.vg_isa.specs.declared.ids.ResourceId.TheVariants.{Reg}
 use Rattle.vg_isa.specs.declared.expr.Expr.{Expr}
 use Rattle.vg_isa.specs.declared.expr.Expr.TheVariants as expr
 use Rattle.vg_isa.specs.declared.operator.BinOp.TheVariants as binop

@@ -1,6 +1,6 @@
 //! The description of a form. `F7` to `OP` are the places of the fields in its one format.
 
-ghost use Rattle.std.specs.Prelude.{◌≡◌, ℕ, ◌+◌, ◌*◌, ◌<◌, ◌^◌, ◌∷◌, [], map, codes, Some, None, IfOk, IsTrue};
+ghost use Rattle.std.specs.Prelude.{◌≡◌, ◌∷◌, [], map, IfOk, IsTrue};
 ghost use Rattle.std.specs.List.{list_all};
 ghost use Rattle.vg_top.specs.Form.{field_at, field_decl, fields_r, format_r, register_of, value_tree, write_of, fits_fields, fixed_of, instr_of, register_file, parts_of};
 
