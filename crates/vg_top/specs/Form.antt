@@ -1,6 +1,6 @@
 -- The descriptions that are read so far: a name, and instructions with one of two behaviours and with
 -- numbers for three fields of their encoding.
-use Rattle.std.specs.Prelude.{ℕ, Bool, ◌&&◌, nat_lt, List, [], ◌∷◌, map, codes, Option, Some, None}
+use Rattle.std.specs.Prelude.{ℕ, ◌^◌, Bool, ◌&&◌, nat_lt, List, [], ◌∷◌, map, codes, Some, None}
 use Rattle.vg_bits.specs.BitValue.{BitValue}
 use Rattle.vg_isa.specs.declared.isa.Parts.{Parts}
 use Rattle.vg_isa.specs.declared.format.Format.{Format}
@@ -9,7 +9,7 @@ use Rattle.vg_isa.specs.declared.declaration.RegDecl.{RegDecl}
 use Rattle.vg_isa.specs.declared.instr.Instr.{Instr}
 use Rattle.vg_isa.specs.declared.instr.Write.{Write}
 use Rattle.vg_isa.specs.declared.ids.FieldId.{FieldId}
-use Rattle.vg_isa.specs.declared.ids.ResourceId.TheVariants.{Memory, Reg}
+use Rattle.vg_isa.specs.declared.ids.ResourceId.TheVariants.{Reg}
 use Rattle.vg_isa.specs.declared.expr.Expr.{Expr}
 use Rattle.vg_isa.specs.declared.expr.Expr.TheVariants as expr
 use Rattle.vg_isa.specs.declared.operator.BinOp.TheVariants as binop
@@ -26,12 +26,13 @@ field_at index = record { format = record { 0 = 0 }; index = index }
 abbrev pub field_decl : List ℕ → ℕ → ℕ → FieldDecl
 field_decl name high low = record { name = name; ranges = (high, low) ∷ [] }
 
--- format R : Bits<32> = { f7 [31..25], rs2 [24..20], rs1 [19..15], f3 [14..12], rd [11..7], op [6..0] }
+-- f7 [31..25], rs2 [24..20], rs1 [19..15], f3 [14..12], rd [11..7], op [6..0]
 abbrev pub fields_r : List FieldDecl
 fields_r =
     field_decl (codes "f7") 31 25 ∷ field_decl (codes "rs2") 24 20 ∷ field_decl (codes "rs1") 19 15
     ∷ field_decl (codes "f3") 14 12 ∷ field_decl (codes "rd") 11 7 ∷ field_decl (codes "op") 6 0 ∷ []
 
+-- format R : Bits<32> of these fields
 abbrev pub format_r : Format
 format_r = record { name = codes "R"; fields = fields_r }
 
@@ -44,7 +45,7 @@ abbrev pub value_tree : Behaviour → Expr
 value_tree AddRegisters = expr.Binary binop.Add (register_of 2) (register_of 1)
 value_tree AddField = expr.Binary binop.Add (register_of 2) (expr.Cast castop.Extend 32 (expr.Field (field_at 1)))
 
--- X(rd) := the value
+-- X(rd) := the value, under the guard that holds always
 abbrev pub write_of : Behaviour → Write
 write_of behaviour = record {
   resource = Reg (record { 0 = 0 });
@@ -58,7 +59,7 @@ write_of behaviour = record {
 
 -- the numbers of a pair fit their fields
 abbrev pub fits_fields : Pair → Bool
-fits_fields pair = nat_lt pair.f7 128 && nat_lt pair.f3 8 && nat_lt pair.op 128
+fits_fields pair = nat_lt pair.f7 (2 ^ 7) && nat_lt pair.f3 (2 ^ 3) && nat_lt pair.op (2 ^ 7)
 
 -- the fields that the encoding fixes
 abbrev pub fixed_of : Pair → List (FieldId × BitValue)
@@ -66,6 +67,7 @@ fixed_of pair =
     (field_at 0, record { width = 7; number = pair.f7 }) ∷ (field_at 3, record { width = 3; number = pair.f3 })
     ∷ (field_at 5, record { width = 7; number = pair.op }) ∷ []
 
+-- the instruction of a pair: one write, no jump, and no line of assembly
 abbrev pub instr_of : Pair → Instr
 instr_of pair = record {
   name = pair.name;

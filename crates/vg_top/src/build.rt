@@ -1,4 +1,6 @@
-ghost use Rattle.std.specs.Prelude.{◌≡◌, ℕ, ◌+◌, ◌*◌, ◌<◌, ◌^◌, ◌∷◌, [], map, codes, Some, None, IfOk, IsTrue};
+//! The description of a form. `F7` to `OP` are the places of the fields in its one format.
+
+ghost use Rattle.std.specs.Prelude.{◌≡◌, ◌∷◌, [], map, IfOk, IsTrue};
 ghost use Rattle.std.specs.List.{list_all};
 ghost use Rattle.vg_top.specs.Form.{field_at, field_decl, fields_r, format_r, register_of, value_tree, write_of, fits_fields, fixed_of, instr_of, register_file, parts_of};
 
@@ -11,7 +13,6 @@ use vg_isa::{
     RegId, ResourceId, Text, Write,
 };
 
-/// The places of the fields of the one format.
 const F7: u32 = 0;
 
 const RS2: u32 = 1;
@@ -24,6 +25,7 @@ const RD: u32 = 4;
 
 const OP: u32 = 5;
 
+/// The field at a place of the one format.
 fn field_at(index: u32) -> FieldId
     ensures { result ≡ field_at index }
 {
@@ -33,12 +35,14 @@ fn field_at(index: u32) -> FieldId
     }
 }
 
+/// Bytes as a text.
 fn text(alloc: Global, bytes: &[u8]) -> Result<Text, AllocError>
     ensures { IfOk result (λ text. text ≡ bytes.now) }
 {
     Items::from_slice(alloc, bytes)
 }
 
+/// A field of one range of bits.
 fn field_decl(alloc: Global, name: &[u8], high: u8, low: u8) -> Result<FieldDecl, AllocError>
     ensures { IfOk result (λ decl. decl ≡ field_decl name.now high low) }
 {
@@ -85,6 +89,7 @@ fn extended(alloc: Global, index: u32) -> Result<Expr, AllocError>
     Ok(Expr::Cast(CastOp::Extend, Width::of(32), field))
 }
 
+/// The sum of two trees.
 fn sum(alloc: Global, left: Expr, right: Expr) -> Result<Expr, AllocError>
     ensures { IfOk result (λ tree. tree ≡ Expr.Binary BinOp.Add left right) }
 {
