@@ -28,48 +28,37 @@ fn file(alloc: Global, name: &str, bytes: &[u8]) -> Result<(String, Vec<u8>), Al
 #[test]
 fn loads_from_memory(rt: HostRuntime) -> Result<(), Fail> {
     let alloc = rt.alloc();
-    let held = vec![in alloc;
-        file(alloc, "a", b"first")?,
-        file(alloc, "b", b"")?,
-        file(alloc, "a", b"second")?,
-    ]?;
-    let mut files = MemFiles::new(held, vec![in alloc; 1]?);
-    let wanted = [
-        ("a", 5, Ok("first")),
-        ("a", 5, Err(LoadFault::Failed)),
-        ("a", 2, Ok("fi")),
-        ("b", 9, Ok("")),
-        ("c", 9, Err(LoadFault::Failed)),
-    ];
-    for (name, most, want) in wanted {
-        let bytes = loaded(&mut files, alloc, name, most);
-        match (bytes, want) {
-            (Ok(bytes), Ok(text)) => assert_eq!(rt; bytes.as_slice(), text.as_bytes(), "{name}"),
-            (Err(fault), Err(want)) => assert_eq!(rt; fault, want, "{name}"),
-            _ => assert!(rt; false, "{name}"),
-        }
-    }
-    let mut asked = String::new(alloc);
-    for name in files.asked() {
-        asked.push_str(name.as_str())?;
-    }
-    assert_eq!(rt; asked.as_str(), "aaabc");
+    let mut held = Vec::new(alloc);
+    held.push(file(alloc, "a", b"first")?)?;
+    held.push(file(alloc, "a", b"second")?)?;
+    let mut failing = Vec::new(alloc);
+    failing.push(1)?;
+    let mut files = MemFiles::new(held, failing);
+    assert_eq!(rt;
+        loaded(&mut files, alloc, "a", 3)?.as_slice(),
+        b"fir".as_slice()
+    );
+    assert!(rt; loaded(&mut files, alloc, "a", 9).is_err());
+    assert_eq!(rt;
+        loaded(&mut files, alloc, "a", 9)?.as_slice(),
+        b"first".as_slice()
+    );
+    assert!(rt; loaded(&mut files, alloc, "b", 9).is_err());
+    assert_eq!(rt; files.asked().len(), 4);
     Ok(())
 }
 
 #[test]
 fn puts_to_memory(rt: HostRuntime) -> Result<(), Fail> {
     let alloc = rt.alloc();
-    let mut out = MemSink::new(alloc, 2, vec![in alloc; 2]?);
+    let mut failing = Vec::new(alloc);
+    failing.push(2)?;
+    let mut out = MemSink::new(alloc, 2, failing);
     assert_eq!(rt; put_all(&mut out, b"abc"), Ok(()));
     assert_eq!(rt; put(&mut out, b""), Ok(0));
     assert_eq!(rt; put_all(&mut out, b"de"), Err(PutAllFault::Write));
     assert_eq!(rt; put(&mut out, b"fgh"), Ok(2));
     assert_eq!(rt; out.bytes(), b"abcfg".as_slice());
-
-    let mut full = MemSink::new(alloc, 0, Vec::new(alloc));
-    assert_eq!(rt; put(&mut full, b"a"), Ok(0));
-    assert_eq!(rt; put_all(&mut full, b"a"), Err(PutAllFault::Write));
     Ok(())
 }
 
