@@ -3,6 +3,7 @@
 
 mod form;
 mod refusal;
+mod report;
 mod status;
 
 pub use form::{Behaviour, Form, Pair};

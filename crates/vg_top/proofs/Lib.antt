@@ -1,0 +1,4 @@
+pub mod Digits
+pub mod RegisterLines
+pub mod NoMemory
+pub mod RunReport
