@@ -1,11 +1,10 @@
 -- Memory has no lines where nothing is stored.
-use Rattle.std.proofs.Common.{◌≡◌, ℕ, ◌+◌, ◌*◌, ◌/◌, ◌^◌, Bool, true, false, List, [], ◌∷◌, ◌++◌, map, nat_eq, refl, ap, sym, ◌∙◌, flat_map, Option, None, unwrap_or, if◌then◌else◌}
+use Rattle.std.proofs.Common.{◌≡◌, ℕ, ◌+◌, ◌*◌, ◌/◌, ◌^◌, Bool, true, false, List, [], ◌∷◌, ◌++◌, map, nat_eq, refl, ap, ◌∙◌, flat_map, Option, unwrap_or, if◌then◌else◌}
 use Rattle.std.specs.List.{list_all, range_with_len}
 use Rattle.std.specs.Ordering.{nat_cmp}
-use Rattle.std.specs.FinMap.{FinMap, empty, get, get-empty}
+use Rattle.std.specs.FinMap.{get-empty}
 use Rattle.vg_isa.specs.declared.isa.Parts.{Parts}
 use Rattle.vg_image.specs.declared.image.Image.{Image}
-use Rattle.vg_image.specs.State.{State}
 use Rattle.vg_top.specs.Report.{memory_lines, row_line, row_of, data_byte, in_code, state_at}
 
 no_lines : (f : ℕ → List ℕ) (ks : List ℕ) → ((k : ℕ) → f k ≡ []) → flat_map f ks ≡ []

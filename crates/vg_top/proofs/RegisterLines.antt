@@ -1,13 +1,12 @@
 -- The lines of registers, one more at a time.
-use Rattle.std.proofs.Common.{◌≡◌, ℕ, zero, suc, ◌+◌, ◌^◌, ◌<◌, ◌≤◌, Bool, true, false, ◌&&◌, List, [], ◌∷◌, ◌++◌, length, get_or, drop, take, IsTrue, nat_eq, nat_lt, refl, ap, sym, ◌∙◌, subst, append_assoc, add-one, zero-add, arith, flat_map, append-nil, Option, Some, None, slice_get, slice_index, unwrap_or, if◌then◌else◌}
+use Rattle.std.proofs.Common.{◌≡◌, ℕ, zero, suc, ◌+◌, ◌^◌, ◌<◌, ◌≤◌, Bool, true, false, ◌&&◌, List, [], ◌∷◌, ◌++◌, length, get_or, drop, IsTrue, nat_eq, nat_lt, refl, ap, sym, ◌∙◌, subst, append_assoc, add-one, zero-add, arith, flat_map, append-nil, Option, Some, slice_get, slice_index, unwrap_or, if◌then◌else◌}
 use Rattle.std.specs.List.{list_all, range_with_len}
 use Rattle.std.specs.Option.{option_map_or}
-use Rattle.std.proofs.Math.Seq.{drop-cons}
 use Rattle.std.proofs.lemmas.Bool.Decides.{nat_tests}
 use Rattle.vg_isa.specs.declared.isa.Parts.{Parts}
 use Rattle.vg_isa.specs.declared.declaration.RegDecl.{RegDecl}
 use Rattle.vg_isa.specs.Declaration.{register_count}
-use Rattle.vg_image.specs.State.{State, register_number}
+use Rattle.vg_image.specs.State.{State}
 use Rattle.vg_top.specs.Report.{is_file_of, are_numbers, declaration_lines, register_lines, value_line, register_name}
 use Rattle.vg_top.specs.RegisterLines.{number_line, file_lines, all_file_lines}
 

@@ -1,5 +1,5 @@
 -- The lines of registers from their numbers alone.
-use Rattle.std.specs.Prelude.{ℕ, ◌++◌, ◌∷◌, Bool, true, false, nat_eq, List, [], flat_map, length, Option, slice_index, if◌then◌else◌}
+use Rattle.std.specs.Prelude.{ℕ, ◌++◌, ◌∷◌, Bool, false, nat_eq, List, [], flat_map, length, slice_index, if◌then◌else◌}
 use Rattle.std.specs.Option.{option_map_or}
 use Rattle.std.specs.List.{range_with_len}
 use Rattle.vg_isa.specs.declared.declaration.RegDecl.{RegDecl}

@@ -1,4 +1,4 @@
-use Rattle.std.proofs.Common.{◌≡◌, ◌++◌, ◌∙◌}
+use Rattle.std.proofs.Common.{◌∙◌}
 use Rattle.vg_top.specs.RegisterLines.{number_line}
 use Rattle.vg_top.proofs.RegisterLines.{file_step}
 use Rattle.vg_top.proofs.report.push_file.Goals as goal

@@ -1,5 +1,4 @@
 use Rattle.std.proofs.Common.{rules}
-use Rattle.std.proofs.lemmas.Grind.{common_steps}
 use Rattle.vg_top.proofs.RunReport.{run_report_pushed}
 use Rattle.vg_top.proofs.report.push_run_report.Goals as goal
 
