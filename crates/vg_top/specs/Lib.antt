@@ -3,6 +3,7 @@ pub mod Command
 pub mod Description
 pub mod Form
 pub mod Refusal
+pub mod RegisterLines
 pub mod Report
 pub mod Words
 pub mod Loading

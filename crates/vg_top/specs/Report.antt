@@ -1,6 +1,7 @@
 -- The report of a run: how it stands, and then the state.
 use Rattle.std.specs.Prelude.{ℕ, ◌+◌, ◌-◌, ◌*◌, ◌/◌, ◌%◌, ◌^◌, ◌∷◌, ◌++◌, Bool, true, false, ◌&&◌, nat_eq, nat_lt, nat_le, List, [], map, flat_map, length, codes, decimal, Option, Some, None, if◌then◌else◌}
 use Rattle.std.specs.List.{list_all, range_with_len}
+use Rattle.std.specs.FinMap.{empty}
 use Rattle.vg_text.specs.Number.{hexadecimal}
 use Rattle.vg_isa.specs.declared.isa.Parts.{Parts}
 use Rattle.vg_isa.specs.declared.declaration.RegDecl.{RegDecl}
@@ -85,3 +86,20 @@ run_status (Some Illegal) = status.Illegal
 -- the report of a run of instructions
 abbrev pub run_report : Parts → Image → Stand → List ℕ
 run_report d i r = run_word r.ending ++ codes " after " ++ decimal r.done ++ 10 ∷ state_lines d i r.state
+
+-- ---- the registers of a state as lists of numbers
+
+-- a declaration's numbers: as many as it has registers, each below 2 to their width
+abbrev pub is_file_of : RegDecl → List ℕ → Bool
+is_file_of decl numbers = nat_eq (length numbers) (register_count decl) && list_all (λ n. nat_lt n (2 ^ decl.width)) numbers
+
+-- the numbers of each declaration
+abbrev pub are_numbers : List RegDecl → List (List ℕ) → Bool
+are_numbers [] [] = true
+are_numbers [] (numbers ∷ files) = false
+are_numbers (decl ∷ regs) [] = false
+are_numbers (decl ∷ regs) (numbers ∷ files) = is_file_of decl numbers && are_numbers regs files
+
+-- the state with this program counter and these registers, where nothing is stored
+abbrev pub state_at : ℕ → List (List ℕ) → State
+state_at pc registers = record { pc = pc; registers = registers; bytes = empty }

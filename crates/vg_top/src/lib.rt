@@ -12,6 +12,7 @@ mod loading;
 mod program;
 mod refusal;
 mod running;
+mod report;
 mod status;
 mod words;
 
