@@ -44,7 +44,7 @@ impl<'a> Iss<'a> {
     ghost use Rattle.vg_image.specs.Spelling.{IsImage};
     ghost use Rattle.vg_image.specs.State.{first_state, reads_of, register_written, resource_written, all_written, state_after};
     ghost use Rattle.vg_image.specs.Step.{step_of, Moved, Over};
-    ghost use Rattle.vg_iss.specs.Kept.{is_memory_free, is_register, write_registers};
+    ghost use Rattle.vg_iss.specs.Kept.{is_memory_free, is_register, write_registers, are_numbers};
     ghost use Rattle.std.specs.Option.{option_map, option_map_or};
     ghost use Rattle.vg_image.specs.Run.{ending_of};
     ghost use Rattle.vg_iss.specs.Simulator.{description_of, image_of, state_of, stepped_of, RunsSame, answer_of, state_behind, IsRan};
@@ -73,6 +73,22 @@ impl<'a> Iss<'a> {
         ensures { result ≡ (reads_of (description_of self.now) (state_of self.now)).pc }
     {
         Bits::of(self.isa.parts().pc.width, u128::from(self.pc))
+    }
+
+    /// The address of the instruction that is next.
+    pub fn address(&self) -> u64
+        ensures value { result ≡ (state_of self.now).pc }
+        ensures below { result < 2 ^ (description_of self.now).pc.width }
+    {
+        self.pc
+    }
+
+    /// For each declaration the numbers of its registers.
+    pub fn registers(&self) -> &[Items<u128>]
+        ensures value { result.now ≡ (state_of self.now).registers }
+        ensures numbers { IsTrue (are_numbers (description_of self.now).regs result.now) }
+    {
+        self.registers.as_slice()
     }
 
     /// What a register reads; a single register has the index 0.
@@ -210,6 +226,16 @@ impl<'a> Iss<'a> {
                 self.execute(fetched.instr, fetched.word);
                 Stepped::Moved
             }
+        }
+    }
+
+    /// Why no step is done in its state; None where one is.
+    pub fn ending(&self) -> Option<Ending>
+        ensures { result ≡ ending_of (step_of (description_of self.now) (image_of self.now) (state_of self.now)) }
+    {
+        match self.fetch() {
+            Err(ending) => Some(ending),
+            Ok(_) => None,
         }
     }
 

@@ -8,20 +8,8 @@ use Rattle.vg_isa.specs.declared.ids.ResourceId.{ResourceId}
 use Rattle.vg_isa.specs.declared.ids.ResourceId.TheVariants.{Memory, Reg}
 use Rattle.vg_top.specs.declared.form.Form.{Form}
 use Rattle.vg_top.specs.declared.form.Pair.{Pair}
+use Rattle.vg_iss.specs.Kept.{is_memory_free, is_register, write_registers}
 use Rattle.vg_top.specs.Form.{instr_of, parts_of}
-
--- a resource is a register
-abbrev pub is_register : ResourceId → Bool
-is_register Memory = false
-is_register (Reg r) = true
-
--- each of the writes is of a register
-abbrev pub write_registers : List Write → Bool
-write_registers writes = list_all (λ (write : Write). is_register write.resource) writes
-
--- each write of each instruction is of a register
-abbrev pub is_memory_free : Parts → Bool
-is_memory_free d = list_all (λ (instr : Instr). write_registers instr.writes) d.instrs
 
 write_registers-instr_of : (pairs : List Pair) → IsTrue (list_all (λ (instr : Instr). write_registers instr.writes) (map instr_of pairs))
 write_registers-instr_of [] = refl

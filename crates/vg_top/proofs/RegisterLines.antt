@@ -7,7 +7,8 @@ use Rattle.vg_isa.specs.declared.isa.Parts.{Parts}
 use Rattle.vg_isa.specs.declared.declaration.RegDecl.{RegDecl}
 use Rattle.vg_isa.specs.Declaration.{register_count}
 use Rattle.vg_image.specs.State.{State}
-use Rattle.vg_top.specs.Report.{is_file_of, are_numbers, declaration_lines, register_lines, value_line, register_name}
+use Rattle.vg_iss.specs.Kept.{is_file_of, are_numbers}
+use Rattle.vg_top.specs.Report.{declaration_lines, register_lines, value_line, register_name}
 use Rattle.vg_top.specs.RegisterLines.{number_line, file_lines, all_file_lines}
 
 -- a number of those that are below a bound

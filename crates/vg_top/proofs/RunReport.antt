@@ -4,7 +4,8 @@ use Rattle.vg_isa.specs.declared.isa.Parts.{Parts}
 use Rattle.vg_image.specs.declared.image.Image.{Image}
 use Rattle.vg_image.specs.declared.ending.Ending.{Ending}
 use Rattle.vg_image.specs.Spelling.{address_line}
-use Rattle.vg_top.specs.Report.{run_report, run_word, state_at, are_numbers, register_lines}
+use Rattle.vg_top.specs.Report.{run_report, run_word, state_at, register_lines}
+use Rattle.vg_iss.specs.Kept.{are_numbers}
 use Rattle.vg_top.specs.RegisterLines.{all_file_lines}
 use Rattle.vg_top.proofs.RegisterLines.{register_lines-files}
 use Rattle.vg_top.proofs.NoMemory.{memory_lines-empty}

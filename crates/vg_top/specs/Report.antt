@@ -89,17 +89,6 @@ run_report d i r = run_word r.ending ++ codes " after " ++ decimal r.done ++ 10 
 
 -- ---- the registers of a state as lists of numbers
 
--- a declaration's numbers: as many as it has registers, each below 2 to their width
-abbrev pub is_file_of : RegDecl → List ℕ → Bool
-is_file_of decl numbers = nat_eq (length numbers) (register_count decl) && list_all (λ n. nat_lt n (2 ^ decl.width)) numbers
-
--- the numbers of each declaration
-abbrev pub are_numbers : List RegDecl → List (List ℕ) → Bool
-are_numbers [] [] = true
-are_numbers [] (numbers ∷ files) = false
-are_numbers (decl ∷ regs) [] = false
-are_numbers (decl ∷ regs) (numbers ∷ files) = is_file_of decl numbers && are_numbers regs files
-
 -- the state with this program counter and these registers, where nothing is stored
 abbrev pub state_at : ℕ → List (List ℕ) → State
 state_at pc registers = record { pc = pc; registers = registers; bytes = empty }

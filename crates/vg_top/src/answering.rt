@@ -3,18 +3,19 @@ use crate::command::Command;
 use crate::description::description_of;
 use crate::fault::Fault;
 use crate::loading::load_within;
-use crate::refusal::{not_built, too_long, usage_line};
+use crate::refusal::{image_refused, not_built, too_long, usage_line};
 use crate::running::run_answer;
 use crate::status::Status;
 use crate::words::command_of;
 use std::alloc::{AllocError, Global};
-use vg_image::Image;
+use vg_image::{ImageFault, read};
 use vg_io::Files;
 use vg_isa::Isa;
 
-ghost use Rattle.std.specs.Prelude.{◌≡◌, ◌≤◌, ◌<◌, [], ◌∷◌, IfOk, IfSome, IsErrOf, Some, MatchOption, length, map, min};
+ghost use Rattle.std.specs.Prelude.{◌≡◌, ◌≤◌, ◌<◌, [], ◌∷◌, IfOk, IfSome, IsErrOf, IsTrue, Some, length, map, min};
 ghost use Rattle.std.specs.Option.{option_map};
 ghost use Rattle.vg_io.specs.Count.{Rose};
+ghost use Rattle.vg_iss.specs.Kept.{is_memory_free};
 ghost use Rattle.vg_top.specs.Answering.{AnswersLoads, AsksNames, IsOfFiles, IsWhole, names_of};
 ghost use Rattle.vg_top.specs.Answers.{Answers, CommandAnswers, ImageAnswers, ImageTextAnswers, DescriptionAnswers, RunAnswers, Reports};
 ghost use Rattle.vg_top.specs.Words.{word_bytes, asked_of};
@@ -27,10 +28,16 @@ const IMAGE_LIMIT: usize = 8 << 20;
 
 /// The answer of `run` to the text of an image.
 fn image_text_answer(alloc: Global, isa: &Isa, text: &[u8], bound: u64) -> Result<Answer, AllocError>
+    requires { IsTrue (is_memory_free isa.now) }
     ensures right { IfOk result (λ answer. ImageTextAnswers isa.now bound text.now [] answer.status answer.text.items) }
     ensures whole { IfOk result (λ answer. IsOfFiles answer.status) }
 {
-    Err(AllocError)
+    match read(alloc, isa, text) {
+        Ok(image) => run_answer(alloc, isa, &image, bound),
+        Err(ImageFault::Line { line }) => Ok(refused(image_refused(alloc, line as u64)?)),
+        Err(ImageFault::NotBuilt { line }) => Ok(refused(not_built(alloc, line as u64, 1)?)),
+        Err(ImageFault::OutOfMemory) => Err(AllocError),
+    }
 }
 
 /// A refusal with this line.
@@ -52,6 +59,7 @@ fn image_answer<F: Files>(
     image: &str,
     bound: u64,
 ) -> Result<Answer, Fault>
+    requires { IsTrue (is_memory_free isa.now) }
     ensures told { AnswersLoads (F.held files.old) (F.asked files.old) (F.asked files.new) result (λ held. ImageAnswers held isa.now image.now bound) }
     ensures read { IsErrOf result Fault.Read → Rose (F.faults files.old) (F.faults files.new) }
     ensures kept_faults { F.faults files.old ≤ F.faults files.new }

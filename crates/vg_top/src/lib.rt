@@ -11,8 +11,8 @@ mod form;
 mod loading;
 mod program;
 mod refusal;
-mod running;
 mod report;
+mod running;
 mod status;
 mod words;
 

@@ -3,6 +3,7 @@ ghost use Rattle.std.specs.Prelude.{◌≡◌, ◌^◌, ◌<◌, ◌∷◌, ◌+
 ghost use Rattle.std.specs.List.{list_all};
 ghost use Rattle.vg_image.specs.Spelling.{address_line};
 ghost use Rattle.vg_top.specs.RegisterLines;
+ghost use Rattle.vg_iss.specs.Kept.{are_numbers};
 ghost use Rattle.vg_top.specs.Report;
 
 use crate::Status;
@@ -27,7 +28,7 @@ pub(crate) fn push_run_report(
     registers: &[Items<u128>],
 ) -> Result<(), AllocError>
     requires pc { pc < 2 ^ isa.now.pc.width }
-    requires registers { IsTrue (Report.are_numbers isa.now.regs registers.now) }
+    requires registers { IsTrue (are_numbers isa.now.regs registers.now) }
     ensures ok { OnOk result (out.new.items ≡ out.old.items ++ Report.run_report isa.now image.now (record { done = done; state = Report.state_at pc registers.now; ending = ending })) }
 {
     push_run_line(out, ending, done)?;
@@ -86,7 +87,7 @@ fn push_address_line(out: &mut Vec<u8>, isa: &Isa, word: &[u8], at: u64) -> Resu
 
 /// Appends the lines of all registers.
 fn push_registers(out: &mut Vec<u8>, isa: &Isa, registers: &[Items<u128>]) -> Result<(), AllocError>
-    requires { IsTrue (Report.are_numbers isa.now.regs registers.now) }
+    requires { IsTrue (are_numbers isa.now.regs registers.now) }
     ensures ok { OnOk result (out.new.items ≡ out.old.items ++ RegisterLines.all_file_lines isa.now.regs registers.now) }
 {
     let regs = isa.parts().regs.as_slice();

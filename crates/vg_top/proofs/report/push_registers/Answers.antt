@@ -1,7 +1,7 @@
 use Rattle.std.proofs.Common.{◌≡◌, List, ◌++◌, length, IsTrue, ap, sym, ◌∙◌, subst, arith}
 use Rattle.vg_isa.specs.declared.isa.Parts.{Parts}
 use Rattle.vg_isa.specs.declared.declaration.RegDecl.{RegDecl}
-use Rattle.vg_top.specs.Report.{are_numbers}
+use Rattle.vg_iss.specs.Kept.{are_numbers}
 use Rattle.vg_top.specs.RegisterLines.{all_file_lines}
 use Rattle.vg_top.proofs.RegisterLines.{as_many, numbers_fit, registers_step, registers_done}
 use Rattle.vg_top.proofs.report.push_registers.Goals as goal
