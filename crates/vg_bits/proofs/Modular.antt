@@ -10,9 +10,11 @@ mod-mod_wide w n v h =
     let e : w ≡ (w - n) + n = omega arith in
     ap (λ (k : ℕ). v % 2 ^ k % 2 ^ n) e ∙ mod-mod-pow v (w - n) n
 
+-- at 64 bits
 pub mod-mod_64 : (n v : ℕ) → n ≤ 64 → v % 18446744073709551616 % 2 ^ n ≡ v % 2 ^ n
 mod-mod_64 n v h = mod-mod_wide 64 n v h
 
+-- at 128 bits
 pub mod-mod_128 : (n v : ℕ) → n ≤ 128 → v % 340282366920938463463374607431768211456 % 2 ^ n ≡ v % 2 ^ n
 mod-mod_128 n v h = mod-mod_wide 128 n v h
 
@@ -22,10 +24,12 @@ pow_split w n h =
     let e : w ≡ n + (w - n) = omega arith in
     ap (λ (k : ℕ). 2 ^ k) e ∙ pow-add 2 n (w - n)
 
+-- one product less, and one more
 times_pred : (p k : ℕ) → 0 < k → p * (k - 1) + p ≡ p * k
 times_pred p zero h = absurd (omega arith)
 times_pred p (suc j) h = let e : suc j - 1 ≡ j = omega arith in rw e (omega (arith, mul-suc p j))
 
+-- 2 ^ n goes into 2 ^ w once more than into what is below it
 pow_rest : (w n : ℕ) → n ≤ w → 2 ^ n * (2 ^ (w - n) - 1) + 2 ^ n ≡ 2 ^ w
 pow_rest w n h = times_pred (2 ^ n) (2 ^ (w - n)) (pow_pos (w - n)) ∙ sym (pow_split w n h)
 
@@ -36,6 +40,7 @@ difference_wide w n a b h below =
     let e : a + (2 ^ w - b) ≡ (2 ^ n + a - b) + 2 ^ n * (2 ^ (w - n) - 1) = omega arith in
     ap (λ (k : ℕ). k % 2 ^ n) e ∙ add-mul-mod_self_left (2 ^ n + a - b) (2 ^ n) (2 ^ (w - n) - 1)
 
+-- at 128 bits
 pub difference_128 : (n a b : ℕ) → n ≤ 128 → b < 2 ^ n → (a + (340282366920938463463374607431768211456 - b)) % 340282366920938463463374607431768211456 % 2 ^ n ≡ (2 ^ n + a - b) % 2 ^ n
 difference_128 n a b h below =
     mod-mod_128 n (a + (340282366920938463463374607431768211456 - b)) h ∙ difference_wide 128 n a b h below
@@ -56,6 +61,7 @@ pub joined : (i j a b : ℕ) → a < 2 ^ i → b < 2 ^ j → bit_or (a * 2 ^ j %
 joined i j a b p q =
     ap (λ (k : ℕ). bit_or k b) (shl_whole a i j (i + j) p (omega arith)) ∙ or_shifted a j b q
 
+-- and its range
 pub joined_below : (i j a b : ℕ) → a < 2 ^ i → b < 2 ^ j → a * 2 ^ j + b < 2 ^ (i + j)
 joined_below i j a b p q =
     let split : 2 ^ (i + j) ≡ 2 ^ i * 2 ^ j = pow-add 2 i j in

@@ -51,32 +51,38 @@ int_lt-pos a = grind (arith, nat_tests)
 
 -- quotient, remainder and product by the two signs, from the absolute values
 
+-- a quotient of two numbers of one sign
 pub wrapped-int_div-same : (n : ℕ) (x y : ℤ) → int_lt x (pos 0) ≡ int_lt y (pos 0) → unsigned_abs x / unsigned_abs y < 2 ^ n → wrapped n (int_div x y) ≡ unsigned_abs x / unsigned_abs y
 wrapped-int_div-same n (pos a) (pos b) s h = wrapped-pos n (a / b) h
 wrapped-int_div-same n (pos a) (negsuc b) s h = let e = int_lt-pos a in cc
 wrapped-int_div-same n (negsuc a) (pos b) s h = let e = int_lt-pos b in cc
 wrapped-int_div-same n (negsuc a) (negsuc b) s h = wrapped-pos n (suc a / suc b) h
 
+-- a quotient of two numbers of different signs
 pub wrapped-int_div-other : (n : ℕ) (x y : ℤ) → int_lt x (pos 0) ≢ int_lt y (pos 0) → unsigned_abs x / unsigned_abs y < 2 ^ n → wrapped n (int_div x y) ≡ (2 ^ n + 0 - unsigned_abs x / unsigned_abs y) % 2 ^ n
 wrapped-int_div-other n (pos a) (pos b) s h = absurd (s (int_lt-pos a ∙ sym (int_lt-pos b)))
 wrapped-int_div-other n (pos a) (negsuc b) s h = wrapped-neg n (a / suc b) h
 wrapped-int_div-other n (negsuc a) (pos b) s h = wrapped-neg n (suc a / b) h
 wrapped-int_div-other n (negsuc a) (negsuc b) s h = absurd (s refl)
 
+-- a remainder of a number that is not negative
 pub wrapped-int_rem-pos : (n : ℕ) (x y : ℤ) → int_lt x (pos 0) ≡ false → unsigned_abs x % unsigned_abs y < 2 ^ n → wrapped n (int_rem x y) ≡ unsigned_abs x % unsigned_abs y
 wrapped-int_rem-pos n (pos a) y s h = wrapped-pos n (a % unsigned_abs y) h
 wrapped-int_rem-pos n (negsuc a) y s h = cc
 
+-- a remainder of a negative number
 pub wrapped-int_rem-neg : (n : ℕ) (x y : ℤ) → int_lt x (pos 0) ≡ true → unsigned_abs x % unsigned_abs y < 2 ^ n → wrapped n (int_rem x y) ≡ (2 ^ n + 0 - unsigned_abs x % unsigned_abs y) % 2 ^ n
 wrapped-int_rem-neg n (pos a) y s h = let e = int_lt-pos a in cc
 wrapped-int_rem-neg n (negsuc a) y s h = wrapped-neg n (suc a % unsigned_abs y) h
 
+-- a product of two numbers of one sign
 pub wrapped-mul-same : (n : ℕ) (x y : ℤ) → int_lt x (pos 0) ≡ int_lt y (pos 0) → unsigned_abs x * unsigned_abs y < 2 ^ n → wrapped n (x *ℤ y) ≡ unsigned_abs x * unsigned_abs y
 wrapped-mul-same n (pos a) (pos b) s h = wrapped-pos n (a * b) h
 wrapped-mul-same n (pos a) (negsuc b) s h = let e = int_lt-pos a in cc
 wrapped-mul-same n (negsuc a) (pos b) s h = let e = int_lt-pos b in cc
 wrapped-mul-same n (negsuc a) (negsuc b) s h = wrapped-pos n (suc a * suc b) h
 
+-- a product of two numbers of different signs
 pub wrapped-mul-other : (n : ℕ) (x y : ℤ) → int_lt x (pos 0) ≢ int_lt y (pos 0) → unsigned_abs x * unsigned_abs y < 2 ^ n → wrapped n (x *ℤ y) ≡ (2 ^ n + 0 - unsigned_abs x * unsigned_abs y) % 2 ^ n
 wrapped-mul-other n (pos a) (pos b) s h = absurd (s (int_lt-pos a ∙ sym (int_lt-pos b)))
 wrapped-mul-other n (pos a) (negsuc b) s h = wrapped-neg n (a * suc b) h
@@ -85,6 +91,7 @@ wrapped-mul-other n (negsuc a) (negsuc b) s h = absurd (s refl)
 
 -- ---- one value, by its highest bit
 
+-- the sign is whether the number reaches the half
 pub nat_le-top : (n a : ℕ) → a < 2 ^ n → nat_le (2 ^ (n - 1)) a ≡ int_lt (signed_value (bit_value n a)) (pos 0)
 nat_le-top n a below =
     let low : a < 2 ^ (n - 1) → nat_le (2 ^ (n - 1)) a ≡ int_lt (signed_value (bit_value n a)) (pos 0) =
@@ -99,21 +106,25 @@ nat_le-top n a below =
     in
     elim (cases_lt a (2 ^ (n - 1))) [ inl h ↦ low h | inr h ↦ high h ]
 
+-- the signed number where the sign is not set
 pub signed_value-not_negative : (n a : ℕ) → a < 2 ^ n → int_lt (signed_value (bit_value n a)) (pos 0) ≡ false → signed_value (bit_value n a) ≡ pos a
 signed_value-not_negative n a below s =
     let e : nat_le (2 ^ (n - 1)) a ≡ false = nat_le-top n a below ∙ s in
     let h : a < 2 ^ (n - 1) = grind (arith, nat_tests) in
     signed_value-low n a h
 
+-- the signed number where the sign is set
 pub signed_value-negative : (n a : ℕ) → a < 2 ^ n → int_lt (signed_value (bit_value n a)) (pos 0) ≡ true → signed_value (bit_value n a) ≡ negsuc (2 ^ n - suc a)
 signed_value-negative n a below s =
     let e : nat_le (2 ^ (n - 1)) a ≡ true = nat_le-top n a below ∙ s in
     let h : 2 ^ (n - 1) ≤ a = grind (arith, nat_tests) in
     signed_value-high n a h below
 
+-- the absolute value where the sign is not set
 pub abs-not_negative : (n a : ℕ) → a < 2 ^ n → int_lt (signed_value (bit_value n a)) (pos 0) ≡ false → unsigned_abs (signed_value (bit_value n a)) ≡ a
 abs-not_negative n a below s = ap unsigned_abs (signed_value-not_negative n a below s)
 
+-- the absolute value where the sign is set
 pub abs-negative : (n a : ℕ) → a < 2 ^ n → int_lt (signed_value (bit_value n a)) (pos 0) ≡ true → unsigned_abs (signed_value (bit_value n a)) ≡ (2 ^ n + 0 - a) % 2 ^ n
 abs-negative n a below s =
     let e : nat_le (2 ^ (n - 1)) a ≡ true = nat_le-top n a below ∙ s in
@@ -143,6 +154,7 @@ shifted-not_negative n a k below s =
     let fits : a / 2 ^ k < 2 ^ n = omega arith in
     ap (λ (z : ℤ). wrapped n (int_div_euclid z (pos (2 ^ k)))) (signed_value-not_negative n a below s) ∙ wrapped-pos n (a / 2 ^ k) fits
 
+-- the same of a negative number
 pub shifted-negative : (n a k : ℕ) → a < 2 ^ n → int_lt (signed_value (bit_value n a)) (pos 0) ≡ true → wrapped n (int_div_euclid (signed_value (bit_value n a)) (pos (2 ^ k))) ≡ 2 ^ n - 1 - (2 ^ n - 1 - a) / 2 ^ k
 shifted-negative n a k below s =
     let e : 2 ^ n - suc a ≡ 2 ^ n - 1 - a = omega arith in
@@ -156,6 +168,7 @@ pub extended-not_negative : (n w a : ℕ) → n ≤ w → a < 2 ^ n → int_lt (
 extended-not_negative n w a le below s =
     ap (wrapped w) (signed_value-not_negative n a below s) ∙ wrapped-pos w a (fits_wider a n w below le)
 
+-- the same of a negative number
 pub extended-negative : (n w a : ℕ) → n ≤ w → a < 2 ^ n → int_lt (signed_value (bit_value n a)) (pos 0) ≡ true → wrapped w (signed_value (bit_value n a)) ≡ 2 ^ w - 1 - (2 ^ n - 1 - a)
 extended-negative n w a le below s =
     let e : 2 ^ n - suc a ≡ 2 ^ n - 1 - a = omega arith in
@@ -163,12 +176,14 @@ extended-negative n w a le below s =
     let low : 2 ^ n - 1 - a < 2 ^ n = omega arith in
     ap (wrapped w) value ∙ wrapped-negsuc w (2 ^ n - 1 - a) (fits_wider (2 ^ n - 1 - a) n w low le)
 
+-- two flags that test as equal are equal
 beq-same : (s t : Bool) → beq s t ≡ true → s ≡ t
 beq-same true true h = refl
 beq-same true false h = sym h
 beq-same false true h = h
 beq-same false false h = refl
 
+-- two flags that test as different differ
 beq-other : (s t : Bool) → beq s t ≡ false → s ≢ t
 beq-other true true h e = cc
 beq-other true false h e = cc
@@ -182,10 +197,12 @@ int_lt-both n a b p q true sa sb =
     rw (signed_value-negative n a p sa, signed_value-negative n b q sb) e
 int_lt-both n a b p q false sa sb = rw (signed_value-not_negative n a p sa, signed_value-not_negative n b q sb) refl
 
+-- the same for two flags that test as equal
 pub int_lt-same : (n a b : ℕ) (s t : Bool) → a < 2 ^ n → b < 2 ^ n → s ≡ int_lt (signed_value (bit_value n a)) (pos 0) → t ≡ int_lt (signed_value (bit_value n b)) (pos 0) → beq s t ≡ true → nat_lt a b ≡ int_lt (signed_value (bit_value n a)) (signed_value (bit_value n b))
 int_lt-same n a b s t p q es et same =
     sym (int_lt-both n a b p q s (sym es) (sym et ∙ sym (beq-same s t same)))
 
+-- two numbers of different signs
 pub int_lt-other : (x y : ℤ) → int_lt x (pos 0) ≢ int_lt y (pos 0) → int_lt x y ≡ int_lt x (pos 0)
 int_lt-other (pos a) (pos b) s = absurd (s (int_lt-pos a ∙ sym (int_lt-pos b)))
 int_lt-other (pos a) (negsuc b) s = sym (int_lt-pos a)
@@ -194,6 +211,7 @@ int_lt-other (negsuc a) (negsuc b) s = absurd (s refl)
 
 -- ---- the operators, from what the code computes: s and t are the signs of x and y, p and q their absolute values
 
+-- of one sign
 pub quotient-same : (n : ℕ) (x y : ℤ) (s t : Bool) (p q r : ℕ) → s ≡ int_lt x (pos 0) → t ≡ int_lt y (pos 0) → p ≡ unsigned_abs x → q ≡ unsigned_abs y → p < 2 ^ n → r ≡ p / q → beq s t ≡ true → r ≡ wrapped n (int_div x y)
 quotient-same n x y s t p q r es et ep eq fits er same =
     let signs : int_lt x (pos 0) ≡ int_lt y (pos 0) = sym es ∙ beq-same s t same ∙ et in
@@ -202,6 +220,7 @@ quotient-same n x y s t p q r es et ep eq fits er same =
     let below : unsigned_abs x / unsigned_abs y < 2 ^ n = omega arith in
     e ∙ sym (wrapped-int_div-same n x y signs below)
 
+-- of different signs
 pub quotient-other : (n : ℕ) (x y : ℤ) (s t : Bool) (p q r : ℕ) → s ≡ int_lt x (pos 0) → t ≡ int_lt y (pos 0) → p ≡ unsigned_abs x → q ≡ unsigned_abs y → p < 2 ^ n → r ≡ p / q → beq s t ≡ false → (2 ^ n + 0 - r) % 2 ^ n ≡ wrapped n (int_div x y)
 quotient-other n x y s t p q r es et ep eq fits er other =
     let signs : int_lt x (pos 0) ≢ int_lt y (pos 0) = λ (h : int_lt x (pos 0) ≡ int_lt y (pos 0)). beq-other s t other (es ∙ h ∙ sym et) in
@@ -210,6 +229,7 @@ quotient-other n x y s t p q r es et ep eq fits er other =
     let below : unsigned_abs x / unsigned_abs y < 2 ^ n = omega arith in
     ap (λ (k : ℕ). (2 ^ n + 0 - k) % 2 ^ n) e ∙ sym (wrapped-int_div-other n x y signs below)
 
+-- of one sign
 pub product-same : (n : ℕ) (x y : ℤ) (s t : Bool) (p q r : ℕ) → s ≡ int_lt x (pos 0) → t ≡ int_lt y (pos 0) → p ≡ unsigned_abs x → q ≡ unsigned_abs y → r < 2 ^ n → r ≡ p * q → beq s t ≡ true → r ≡ wrapped n (x *ℤ y)
 product-same n x y s t p q r es et ep eq fits er same =
     let signs : int_lt x (pos 0) ≡ int_lt y (pos 0) = sym es ∙ beq-same s t same ∙ et in
@@ -217,6 +237,7 @@ product-same n x y s t p q r es et ep eq fits er same =
     let below : unsigned_abs x * unsigned_abs y < 2 ^ n = omega arith in
     e ∙ sym (wrapped-mul-same n x y signs below)
 
+-- of different signs
 pub product-other : (n : ℕ) (x y : ℤ) (s t : Bool) (p q r : ℕ) → s ≡ int_lt x (pos 0) → t ≡ int_lt y (pos 0) → p ≡ unsigned_abs x → q ≡ unsigned_abs y → r < 2 ^ n → r ≡ p * q → beq s t ≡ false → (2 ^ n + 0 - r) % 2 ^ n ≡ wrapped n (x *ℤ y)
 product-other n x y s t p q r es et ep eq fits er other =
     let signs : int_lt x (pos 0) ≢ int_lt y (pos 0) = λ (h : int_lt x (pos 0) ≡ int_lt y (pos 0)). beq-other s t other (es ∙ h ∙ sym et) in
@@ -224,6 +245,7 @@ product-other n x y s t p q r es et ep eq fits er other =
     let below : unsigned_abs x * unsigned_abs y < 2 ^ n = omega arith in
     ap (λ (k : ℕ). (2 ^ n + 0 - k) % 2 ^ n) e ∙ sym (wrapped-mul-other n x y signs below)
 
+-- of a number that is not negative
 pub remainder-not_negative : (n : ℕ) (x y : ℤ) (p q r : ℕ) → int_lt x (pos 0) ≡ false → p ≡ unsigned_abs x → q ≡ unsigned_abs y → p < 2 ^ n → r ≡ p % q → r ≡ wrapped n (int_rem x y)
 remainder-not_negative n x y p q r s ep eq fits er =
     let e : r ≡ unsigned_abs x % unsigned_abs y = cc in
@@ -231,6 +253,7 @@ remainder-not_negative n x y p q r s ep eq fits er =
     let below : unsigned_abs x % unsigned_abs y < 2 ^ n = omega arith in
     e ∙ sym (wrapped-int_rem-pos n x y s below)
 
+-- of a negative number
 pub remainder-negative : (n : ℕ) (x y : ℤ) (p q r : ℕ) → int_lt x (pos 0) ≡ true → p ≡ unsigned_abs x → q ≡ unsigned_abs y → p < 2 ^ n → r ≡ p % q → (2 ^ n + 0 - r) % 2 ^ n ≡ wrapped n (int_rem x y)
 remainder-negative n x y p q r s ep eq fits er =
     let e : r ≡ unsigned_abs x % unsigned_abs y = cc in
@@ -238,14 +261,17 @@ remainder-negative n x y p q r s ep eq fits er =
     let below : unsigned_abs x % unsigned_abs y < 2 ^ n = omega arith in
     ap (λ (k : ℕ). (2 ^ n + 0 - k) % 2 ^ n) e ∙ sym (wrapped-int_rem-neg n x y s below)
 
+-- the formula where the divisor is not 0
 pub signed_quotient-nonzero : (n a b : ℕ) → 0 < b → signed_quotient (bit_value n a) (bit_value n b) ≡ wrapped n (int_div (signed_value (bit_value n a)) (signed_value (bit_value n b)))
 unfolding signed_quotient
 signed_quotient-nonzero n a b h = let e : (b == 0) ≡ false = grind (arith, nat_tests) in rw e refl
 
+-- the formula where the divisor is not 0
 pub signed_remainder-nonzero : (n a b : ℕ) → 0 < b → signed_remainder (bit_value n a) (bit_value n b) ≡ wrapped n (int_rem (signed_value (bit_value n a)) (signed_value (bit_value n b)))
 unfolding signed_remainder
 signed_remainder-nonzero n a b h = let e : (b == 0) ≡ false = grind (arith, nat_tests) in rw e refl
 
+-- the formula where the flag is set
 pub long_product-signed : (n a b : ℕ) → long_product (bit_value n a) (bit_value n b) true ≡ wrapped (2 * n) (signed_value (bit_value n a) *ℤ signed_value (bit_value n b))
 unfolding long_product
 long_product-signed n a b = refl
@@ -262,6 +288,7 @@ pub signed_quotient-zero : (n a b : ℕ) → b ≡ 0 → signed_quotient (bit_va
 unfolding signed_quotient
 signed_quotient-zero n a b h = let e : (b == 0) ≡ true = grind (arith, nat_tests) in rw e refl
 
+-- the formula of the remainder where the divisor is 0
 pub signed_remainder-zero : (n a b : ℕ) → b ≡ 0 → signed_remainder (bit_value n a) (bit_value n b) ≡ a
 unfolding signed_remainder
 signed_remainder-zero n a b h = let e : (b == 0) ≡ true = grind (arith, nat_tests) in rw e refl

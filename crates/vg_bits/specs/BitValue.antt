@@ -36,18 +36,23 @@ all_ones width = 2 ^ width - 1
 
 -- ---- sums and products, which wrap
 
+-- the sum, modulo 2 ^ width
 abbrev pub add : BitValue → BitValue → BitValue
 add a b = record { width = a.width; number = (a.number + b.number) % 2 ^ a.width }
 
+-- the difference, modulo 2 ^ width
 abbrev pub sub : BitValue → BitValue → BitValue
 sub a b = record { width = a.width; number = (2 ^ a.width + a.number - b.number) % 2 ^ a.width }
 
+-- the product, modulo 2 ^ width
 abbrev pub mul : BitValue → BitValue → BitValue
 mul a b = record { width = a.width; number = (a.number * b.number) % 2 ^ a.width }
 
+-- zero minus the number, modulo 2 ^ width
 abbrev pub neg : BitValue → BitValue
 neg a = record { width = a.width; number = (2 ^ a.width - a.number) % 2 ^ a.width }
 
+-- the whole product of two numbers of one width, or of the signed numbers, in twice as many bits
 unfoldable pub long_product : BitValue → BitValue → Bool → ℕ
 long_product a b signed =
     if signed then wrapped (2 * a.width) (signed_value a *ℤ signed_value b) else a.number * b.number
@@ -58,18 +63,23 @@ mul_long a b signed = record { width = 2 * a.width; number = long_product a b si
 
 -- ---- division: by 0 the quotient is all ones and the remainder is the dividend
 
+-- the quotient of the numbers, rounded down
 unfoldable pub unsigned_quotient : BitValue → BitValue → ℕ
 unsigned_quotient a b = if b.number == 0 then all_ones a.width else (a.number / b.number)
 
+-- the quotient of the unsigned numbers
 abbrev pub udiv : BitValue → BitValue → BitValue
 udiv a b = record { width = a.width; number = unsigned_quotient a b }
 
+-- the remainder of the numbers
 unfoldable pub unsigned_remainder : BitValue → BitValue → ℕ
 unsigned_remainder a b = if b.number == 0 then a.number else (a.number % b.number)
 
+-- the remainder of the unsigned numbers
 abbrev pub urem : BitValue → BitValue → BitValue
 urem a b = record { width = a.width; number = unsigned_remainder a b }
 
+-- the quotient of the signed numbers, towards zero, wrapped
 unfoldable pub signed_quotient : BitValue → BitValue → ℕ
 signed_quotient a b =
     if b.number == 0 then all_ones a.width else wrapped a.width (int_div (signed_value a) (signed_value b))
@@ -83,25 +93,31 @@ unfoldable pub signed_remainder : BitValue → BitValue → ℕ
 signed_remainder a b =
     if b.number == 0 then a.number else wrapped a.width (int_rem (signed_value a) (signed_value b))
 
+-- the remainder of the signed numbers, with the sign of the dividend
 abbrev pub srem : BitValue → BitValue → BitValue
 srem a b = record { width = a.width; number = signed_remainder a b }
 
 -- ---- bit by bit
 
+-- the bits that are set in both
 abbrev pub and : BitValue → BitValue → BitValue
 and a b = record { width = a.width; number = bit_and a.number b.number }
 
+-- the bits that are set in one or both
 abbrev pub or : BitValue → BitValue → BitValue
 or a b = record { width = a.width; number = bit_or a.number b.number }
 
+-- the bits that are set in one alone
 abbrev pub xor : BitValue → BitValue → BitValue
 xor a b = record { width = a.width; number = bit_xor a.number b.number }
 
+-- the bits that are not set
 abbrev pub not : BitValue → BitValue
 not a = record { width = a.width; number = all_ones a.width - a.number }
 
 -- ---- shifts, by the number of b, which may have any width
 
+-- the number times 2 ^ b, modulo 2 ^ width
 unfoldable pub shifted_left : BitValue → BitValue → ℕ
 shifted_left a b =
     if nat_lt b.number a.width then ((a.number * 2 ^ b.number) % 2 ^ a.width) else 0
@@ -110,6 +126,7 @@ shifted_left a b =
 abbrev pub shl : BitValue → BitValue → BitValue
 shl a b = record { width = a.width; number = shifted_left a b }
 
+-- the number over 2 ^ b, rounded down
 unfoldable pub shifted_right : BitValue → BitValue → ℕ
 shifted_right a b = if nat_lt b.number a.width then (a.number / 2 ^ b.number) else 0
 
@@ -121,6 +138,7 @@ shr a b = record { width = a.width; number = shifted_right a b }
 abbrev pub sign_bits : BitValue → ℕ
 sign_bits a = if int_lt (signed_value a) (pos 0) then all_ones a.width else 0
 
+-- the signed number over 2 ^ b, rounded down, wrapped
 unfoldable pub signed_shifted_right : BitValue → BitValue → ℕ
 signed_shifted_right a b =
     if nat_lt b.number a.width then wrapped a.width (int_div_euclid (signed_value a) (pos (2 ^ b.number))) else sign_bits a
@@ -131,9 +149,11 @@ sar a b = record { width = a.width; number = signed_shifted_right a b }
 
 -- ---- tests
 
+-- of the numbers
 abbrev pub eq : BitValue → BitValue → Bool
 eq a b = a.number == b.number
 
+-- of the unsigned numbers
 abbrev pub lt : BitValue → BitValue → Bool
 lt a b = nat_lt a.number b.number
 

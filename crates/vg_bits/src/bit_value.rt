@@ -7,7 +7,7 @@ use crate::signed::{
     total_signed_right, unsigned_product,
 };
 use crate::words::{
-    difference, left, low_bits, ones, product, right, sum, total_left, total_quotient,
+    difference, joined, low_bits, ones, product, right, sum, total_left, total_quotient,
     total_remainder, total_right,
 };
 use std::marker::Model;
@@ -308,14 +308,12 @@ impl Bits {
 
     /// The bits of `self` above those of `o`.
     #[inline(always)]
-    #[tactic(auto, using(crate::proofs::Modular::joins))]
     pub fn join(self, o: Bits) -> Bits
         requires { self.width + o.width ≤ 128 }
         ensures { result ≡ bits.join self o }
     {
-        let m = o.width.bits();
-        let n = self.width.bits() + m;
-        Bits::of(Width::of(n), left(self.value, m, n) | o.value)
+        let (k, m) = (self.width.bits(), o.width.bits());
+        Bits::of(Width::of(k + m), joined(self.value, k, o.value, m))
     }
 
     /// The bits from `hi` down to `lo`, both of them in it. Bit 0 is the lowest.

@@ -204,3 +204,17 @@ pub(crate) fn total_right(a: u128, k: u128, n: u8) -> u128
         0
     }
 }
+
+/// The `k` bits of `a` above the `m` bits of `b`.
+#[inline(always)]
+#[tactic(auto, using(crate::proofs::Modular::joins))]
+pub(crate) fn joined(a: u128, k: u8, b: u128, m: u8) -> u128
+    requires above { 0 < k }
+    requires room { k + m ≤ 128 }
+    requires upper { a < 2 ^ k }
+    requires lower { b < 2 ^ m }
+    ensures value { result ≡ a * 2 ^ m + b }
+    ensures fits { result < 2 ^ (k + m) }
+{
+    left(a, m, k + m) | b
+}
