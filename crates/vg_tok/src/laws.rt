@@ -8,5 +8,4 @@ pub fn one_reading()
     ensures tokens { (bytes : List ℕ) (ts us : List Token) → Lexes bytes ts → Lexes bytes us → ts ≡ us }
     ensures fault { (bytes : List ℕ) (f g : TokFault) → IsFault bytes f → IsFault bytes g → f ≡ g }
     ensures either { (bytes : List ℕ) (ts : List Token) (f : TokFault) → Lexes bytes ts → IsFault bytes f → ⊥ }
-{
-}
+{}

@@ -88,11 +88,7 @@ fn element_at(
 }
 
 /// The tokens of these characters, where these bytes behind them begin with no character.
-fn tokens_of(
-    alloc: Global,
-    characters: &[char],
-    behind: &[u8],
-) -> Result<Items<Token>, TokFault>
+fn tokens_of(alloc: Global, characters: &[char], behind: &[u8]) -> Result<Items<Token>, TokFault>
     requires { byte_len characters.now < 2 ^ 64 }
     ensures tokens { IfOk result (λ tokens. HaveTokens characters.now behind.now tokens) }
     ensures fault { IfErr result (λ fault. IsFaultOr fault (HaveFault characters.now behind.now fault)) }
