@@ -12,7 +12,7 @@ scalars-from_encodes cs bs u e =
     let P : List ℕ → Type 0 = λ ds. all_scalars ds ≡ true in
     subst P (encodes_same u.0 cs (u.1.1 ∙ sym e)) u.1.0
 
-length-encode_positive : (c : ℕ) → 0 < length (encode_utf8 c)
+pub length-encode_positive : (c : ℕ) → 0 < length (encode_utf8 c)
 length-encode_positive c = rw length-encode (omega (arith, (len_utf8_bounds c).0))
 
 pub StartsWithNoChar-nil : StartsWithNoChar []
@@ -26,7 +26,7 @@ IsValidFront-whole bytes front e u = record {
   stuck = rw e (rw (drop_all (length bytes) bytes (omega arith)) StartsWithNoChar-nil);
 }
 
-take-longer : (n : ℕ) (bytes front rest : List ℕ) → n ≤ length bytes → drop n bytes ≡ front ++ rest → take (n + length front) bytes ≡ take n bytes ++ front
+pub take-longer : (n : ℕ) (bytes front rest : List ℕ) → n ≤ length bytes → drop n bytes ≡ front ++ rest → take (n + length front) bytes ≡ take n bytes ++ front
 take-longer n bytes front rest h e =
     let whole : bytes ≡ (take n bytes ++ front) ++ rest =
     sym (take-append-drop n bytes) ∙ (ap (λ x. take n bytes ++ x) e ∙ sym (append_assoc (take n bytes) front rest)) in
