@@ -1,11 +1,11 @@
 -- Each text has tokens or a fault.
-use Rattle.std.proofs.Common.{◌≡◌, ◌≢◌, ◌⊎◌, inl, inr, ℕ, zero, suc, ◌+◌, ◌-◌, ◌^◌, ◌<◌, ◌≤◌, Bool, true, false, cond, List, [], ◌∷◌, ◌++◌, length, take, drop, Option, Some, None, refl, sym, ap, subst, ◌∙◌, arith, append_assoc, length-append, length-drop}
+use Rattle.std.proofs.Common.{◌≡◌, ◌⊎◌, inl, inr, ℕ, zero, suc, ◌+◌, ◌-◌, ◌<◌, ◌≤◌, Bool, true, false, List, [], ◌∷◌, ◌++◌, length, take, drop, Option, Some, None, refl, sym, ap, subst, ◌∙◌, arith, length-append, length-drop}
 use Rattle.std.proofs.Common.{⊎_elim, eqb}
 use Rattle.std.proofs.lemmas.Bool.Decides.{nat_tests}
 use Rattle.std.proofs.lemmas.List.{take-append-drop, nil_from_length}
 use Rattle.std.proofs.lemmas.Str.{IsUtf8-nil, IsUtf8-from_is_utf8, is_utf8-from_IsUtf8, IsUtf8-append, IsUtf8-encode, scalars-chars, encodes-chars}
 use Rattle.std.specs.Char.{encode_utf8}
-use Rattle.std.specs.Str.{IsUtf8, is_utf8, StartsWithNoChar, chars}
+use Rattle.std.specs.Str.{IsUtf8, is_utf8, chars}
 use Rattle.vg_tok.specs.declared.token.Token.{Token}
 use Rattle.vg_tok.specs.declared.token.Kind.{Kind}
 use Rattle.vg_tok.specs.declared.token.Kind.TheVariants as kinds
@@ -13,7 +13,7 @@ use Rattle.vg_tok.specs.declared.fault.TokFault.{TokFault}
 use Rattle.vg_tok.specs.declared.fault.TokFault.TheVariants as faults
 use Rattle.vg_tok.specs.declared.lexeme.Lexeme.{Lexeme}
 use Rattle.vg_tok.specs.declared.lexeme.Lexeme.TheVariants as lexemes
-use Rattle.vg_tok.specs.Lexing.{has_close, byte_len, placed, AreDecoded, Lexes, IsOpen, IsFault, IsFaultAhead}
+use Rattle.vg_tok.specs.Lexing.{has_close, byte_len, AreDecoded, Lexes, IsOpen, IsFault, IsFaultAhead}
 use Rattle.vg_tok.specs.Front.{lexeme_at}
 use Rattle.vg_tok.specs.Reading.{name_kind, Begins, Means, IsReadTo, HaveTokens, HaveFault}
 use Rattle.vg_tok.proofs.Lists.{false≢true}
@@ -36,17 +36,23 @@ last_or m n k = elim (eqb m (suc n)) as (λ b. eqb m (suc n) ≡ b → (m ≤ n)
     [ true ↦ (λ e. inr (eqb-same m (suc n) e)) | false ↦ (λ e. inl (grind (arith, nat_tests))) ] refl
 
 longest_more : (bytes : List ℕ) (n : ℕ) (b : Bool) → is_utf8 (take (suc n) bytes) ≡ b → (v : ℕ) × IsLongestText bytes n v → (v : ℕ) × IsLongestText bytes (suc n) v
-longest_more bytes n true e (v, r) = (suc n, record {
+longest_more bytes n true e (v, r) = (
+  suc n,
+  record {
     within = omega arith;
     text = IsUtf8-from_is_utf8 (take (suc n) bytes) e;
-    longest = λ m l k u. absurd (omega arith)
-  })
-longest_more bytes n false e (v, r) = (v, record {
+    longest = λ m l k u. absurd (omega arith);
+  },
+)
+longest_more bytes n false e (v, r) = (
+  v,
+  record {
     within = omega (arith, r.within);
     text = r.text;
     longest = λ m l k u. ⊎_elim (λ (s : m ≤ n). r.longest m l s u)
-      (λ (s : m ≡ suc n). false≢true (sym e ∙ is_utf8-from_IsUtf8 (take (suc n) bytes) (subst (λ (z : ℕ). IsUtf8 (take z bytes)) s u))) (last_or m n k)
-  })
+        (λ (s : m ≡ suc n). false≢true (sym e ∙ is_utf8-from_IsUtf8 (take (suc n) bytes) (subst (λ (z : ℕ). IsUtf8 (take z bytes)) s u))) (last_or m n k);
+  },
+)
 
 longest_text : (bytes : List ℕ) (n : ℕ) → (v : ℕ) × IsLongestText bytes n v
 longest_text bytes zero = (0, record { within = omega arith; text = IsUtf8-nil; longest = λ m l k u. absurd (omega arith) })
@@ -56,16 +62,21 @@ decoded : (bytes : List ℕ) → (cs : List ℕ) × ((behind : List ℕ) × AreD
 decoded bytes =
     let f = longest_text bytes (length bytes) in
     let v = f.0 in
-    let r = f.1 in
-    (chars (take v bytes), (drop v bytes, record {
-      scalars = scalars-chars (take v bytes) r.text;
-      whole = sym (take-append-drop v bytes) ∙ ap (λ z. z ++ drop v bytes) (sym (encodes-chars (take v bytes) r.text));
-      stuck = λ c rest s e.
-        (let l = length-encode_positive c in
-         let d : length bytes - v ≡ length (encode_utf8 c) + length rest = sym (length-drop v bytes) ∙ (ap length e ∙ length-append (encode_utf8 c) rest) in
-         r.longest (v + length (encode_utf8 c)) (omega arith) (omega (arith, r.within))
-           (subst IsUtf8 (sym (take-longer v bytes (encode_utf8 c) rest r.within e)) (IsUtf8-append (take v bytes) (encode_utf8 c) r.text (IsUtf8-encode c s))))
-    }))
+    let r = f.1 in (
+      chars (take v bytes),
+      (
+        drop v bytes,
+        record {
+          scalars = scalars-chars (take v bytes) r.text;
+          whole = sym (take-append-drop v bytes) ∙ ap (λ z. z ++ drop v bytes) (sym (encodes-chars (take v bytes) r.text));
+          stuck = λ c rest s e.
+              (let l = length-encode_positive c in
+              let d : length bytes - v ≡ length (encode_utf8 c) + length rest = sym (length-drop v bytes) ∙ (ap length e ∙ length-append (encode_utf8 c) rest) in
+              r.longest (v + length (encode_utf8 c)) (omega arith) (omega (arith, r.within))
+              (subst IsUtf8 (sym (take-longer v bytes (encode_utf8 c) rest r.within e)) (IsUtf8-append (take v bytes) (encode_utf8 c) r.text (IsUtf8-encode c s))));
+        },
+      ),
+    )
 
 -- A row of elements goes on up to the end of the text or a fault.
 
