@@ -1,12 +1,10 @@
 -- What a token's first character says of it.
-use Rattle.std.proofs.Common.{◌≡◌, ℕ, ◌+◌, ◌<◌, ◌≤◌, Bool, true, false, cond, not, ◌&&◌, ◌||◌, ◌==◌, eqb, ltb, nat_lt, List, [], ◌∷◌, refl, sym, ap, ◌∙◌, arith, lit<, ◌⊎◌, inl, inr}
+use Rattle.std.proofs.Common.{◌≡◌, ℕ, ◌<◌, ◌≤◌, Bool, true, false, cond, not, ◌&&◌, ◌||◌, ◌==◌, nat_lt, List, [], ◌∷◌, refl, sym, ap, ◌∙◌, arith, lit<}
 use Rattle.std.proofs.lemmas.Bool.Decides.{nat_tests}
-use Rattle.std.specs.Char.{is_digit, digit_value, is_ascii_alphabetic}
+use Rattle.std.specs.Char.{is_digit, is_ascii_alphabetic}
 use Rattle.std.specs.List.{list_all}
-use Rattle.std.specs.Int.{is_in_range}
-use Rattle.unicode_ident.specs.Ident.{is_xid_start, is_xid_continue}
 use Rattle.unicode_ident.proofs.IdentLemmas.{is_xid_start-ascii, is_xid_continue-ascii}
-use Rattle.vg_tok.specs.Lexing.{is_white, may_start, may_continue, is_string_char, is_name}
+use Rattle.vg_tok.specs.Lexing.{is_white, may_start, may_continue, is_name}
 use Rattle.vg_tok.proofs.Lists.{is_false, false≢true, both, both-from, list_all-weaker}
 
 pub data Class : Type 0 where
@@ -97,4 +95,4 @@ name-letters [] h = h
 name-letters (c ∷ cs) h =
     let p = both (is_ascii_alphabetic c) (list_all is_ascii_alphabetic cs) h in
     both-from (may_start c) (list_all may_continue cs) (letter_starts c p.0)
-      (list_all-weaker is_ascii_alphabetic may_continue letter_continues cs p.1)
+    (list_all-weaker is_ascii_alphabetic may_continue letter_continues cs p.1)

@@ -1,13 +1,13 @@
 -- How far a number goes.
-use Rattle.std.proofs.Common.{◌≡◌, ◌≢◌, ◌⊎◌, inl, inr, ℕ, zero, suc, ◌+◌, ◌*◌, ◌^◌, ◌<◌, ◌≤◌, Bool, true, false, cond, not, ◌&&◌, ◌||◌, ◌==◌, eqb, nat_le, IsTrue, List, [], ◌∷◌, ◌++◌, length, take, drop, Option, Some, None, refl, sym, ap, subst, ◌∙◌, arith, append_assoc, length-append, lit≤}
+use Rattle.std.proofs.Common.{◌≡◌, ℕ, ◌+◌, ◌≤◌, Bool, true, false, cond, ◌&&◌, ◌==◌, eqb, List, [], ◌∷◌, ◌++◌, length, refl, sym, ap, subst, ◌∙◌, arith, lit≤}
 use Rattle.std.proofs.lemmas.Bool.Decides.{nat_tests}
-use Rattle.std.proofs.lemmas.List.{append-nil, take_at, drop_at, append_cancel_left, nil_from_length}
-use Rattle.std.specs.Char.{is_digit, digit_value}
+use Rattle.std.proofs.lemmas.List.{append_cancel_left}
+use Rattle.std.specs.Char.{is_digit}
 use Rattle.vg_tok.specs.declared.number.Base.{Base}
 use Rattle.vg_tok.specs.declared.number.Base.TheVariants.{Decimal, Hexadecimal, Binary}
-use Rattle.vg_tok.specs.Lexing.{may_continue, begins_with, radix, prefix, go_on, are_digits, value_from, IsNumber}
+use Rattle.vg_tok.specs.Lexing.{begins_with, radix, prefix, go_on, are_digits, IsNumber}
 use Rattle.vg_tok.specs.Front.{digits_from, digits_len, base_at}
-use Rattle.vg_tok.proofs.Lists.{false≢true, both, both-from, chosen, head, tail}
+use Rattle.vg_tok.proofs.Lists.{false≢true, both, both-from, head, tail}
 use Rattle.vg_tok.proofs.Spelled.{no_x, no_b}
 
 pub eqb-same : (a b : ℕ) → eqb a b ≡ true → a ≡ b
@@ -87,24 +87,24 @@ quote_most base d cs n h k g (x ∷ y ∷ t) u e q =
 -- one digit more
 digit_more : (base c : ℕ) (cs : List ℕ) (n : ℕ) → base ≤ 36 → is_digit c base ≡ true → GoesOn base cs n → GoesOn base (c ∷ cs) (n + 1)
 digit_more base c cs n h d g = record {
-    front = c ∷ g.front;
-    rest = g.rest;
-    whole = ap (λ z. c ∷ z) g.whole;
-    len = omega (arith, g.len);
-    each = go_on-cons base c g.front h d ∙ g.each;
-    most = digit_most base c cs n h d g
-  }
+  front = c ∷ g.front;
+  rest = g.rest;
+  whole = ap (λ z. c ∷ z) g.whole;
+  len = omega (arith, g.len);
+  each = go_on-cons base c g.front h d ∙ g.each;
+  most = digit_most base c cs n h d g;
+}
 
 -- a quote and a digit more
 quote_more : (base d : ℕ) (cs : List ℕ) (n : ℕ) → base ≤ 36 → is_digit d base ≡ true → GoesOn base cs n → GoesOn base (39 ∷ d ∷ cs) (n + 2)
 quote_more base d cs n h k g = record {
-    front = 39 ∷ d ∷ g.front;
-    rest = g.rest;
-    whole = ap (λ z. 39 ∷ d ∷ z) g.whole;
-    len = omega (arith, g.len);
-    each = go_on-quote base d g.front k ∙ g.each;
-    most = quote_most base d cs n h k g
-  }
+  front = 39 ∷ d ∷ g.front;
+  rest = g.rest;
+  whole = ap (λ z. 39 ∷ d ∷ z) g.whole;
+  len = omega (arith, g.len);
+  each = go_on-quote base d g.front k ∙ g.each;
+  most = quote_most base d cs n h k g;
+}
 
 -- what the code finds where a digit stands before
 abbrev Found : ℕ → ℕ → List ℕ → Type 0
@@ -135,7 +135,7 @@ found base i [] h = (0, omega arith, stays base [] (λ t u e k. nil_most t u e))
 found base i (c ∷ []) h = found_one base i c h (is_digit c base) refl (eqb c 39) refl
 found base i (c ∷ d ∷ cs) h =
     found_two base i c d cs h (is_digit c base) refl (eqb c 39) refl (is_digit d base) refl
-      (found base (i + 1) (d ∷ cs) h) (found base (i + 1 + 1) cs h)
+    (found base (i + 1) (d ∷ cs) h) (found base (i + 1 + 1) cs h)
 
 -- the digits at the front of a text
 pub record DigitSpan (base : ℕ) (cs : List ℕ) : Type 0 where
@@ -161,7 +161,7 @@ digit_span-cons base c cs h d =
       whole = ap (λ z. c ∷ z) f.2.whole;
       len = omega (arith, f.2.len, e);
       each = both-from (is_digit c base) (go_on base f.2.front) d f.2.each;
-      most = λ t u k q. let r = span_most base c cs f.0 f.2 t u k q in omega (arith, r, e)
+      most = λ t u k q. let r = span_most base c cs f.0 f.2 t u k q in omega (arith, r, e);
     }
 
 pub digit_span : (base : ℕ) (cs : List ℕ) → base ≤ 36 → begins_with (λ d. is_digit d base) cs ≡ true → DigitSpan base cs

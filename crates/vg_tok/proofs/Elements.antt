@@ -1,14 +1,12 @@
 -- One element at most stands in a place.
-use Rattle.std.proofs.Common.{◌≡◌, ◌≢◌, ◌⊎◌, inl, inr, ℕ, zero, suc, ◌+◌, ◌*◌, ◌^◌, ◌<◌, ◌≤◌, Bool, true, false, cond, not, ◌&&◌, ◌||◌, ◌==◌, eqb, IsTrue, List, [], ◌∷◌, ◌++◌, length, Option, Some, None, MatchOption, refl, sym, ap, subst, ◌∙◌, arith, append_assoc}
-use Rattle.std.proofs.lemmas.Bool.Decides.{nat_tests}
-use Rattle.std.proofs.lemmas.List.{append_cancel_left, append_cancel_right, append-nil}
-use Rattle.std.specs.List.{list_all}
+use Rattle.std.proofs.Common.{◌≡◌, ◌⊎◌, inl, inr, ℕ, true, false, not, ◌&&◌, ◌==◌, List, [], ◌∷◌, ◌++◌, Option, Some, None, MatchOption, refl, sym, ap, subst, ◌∙◌, arith, append_assoc}
+use Rattle.std.proofs.lemmas.List.{append_cancel_left, append-nil}
 use Rattle.vg_tok.specs.declared.token.Kind.{Kind}
 use Rattle.vg_tok.specs.declared.token.Kind.TheVariants as kinds
-use Rattle.vg_tok.specs.Lexing.{is_white, may_continue, begins_with, Spells, begins_comment, has_close, ends_line, IsLineComment, IsBlockComment, IsWhite, IsGap, IsLongest, IsFit, IsToken, Element, IsElement}
-use Rattle.vg_tok.proofs.Lists.{false≢true, both, both-from, neither, head, tail, fronts, cut_once}
-use Rattle.vg_tok.proofs.Characters.{Class, White, Letter, Digit, Quote, Other, class, class-white}
-use Rattle.vg_tok.proofs.Spelled.{class_of, First, spells-first, spells_once}
+use Rattle.vg_tok.specs.Lexing.{is_white, begins_with, Spells, begins_comment, has_close, ends_line, IsLineComment, IsBlockComment, IsWhite, IsGap, IsLongest, IsToken, Element, IsElement}
+use Rattle.vg_tok.proofs.Lists.{false≢true, neither, head, tail, fronts, cut_once}
+use Rattle.vg_tok.proofs.Characters.{White, class, class-white}
+use Rattle.vg_tok.proofs.Spelled.{class_of, spells-first, spells_once}
 
 pub apart : ◌≡◌ {A = ℕ} 47 42 → ⊥
 apart h = omega arith
@@ -32,8 +30,9 @@ longest_from j k a b c d m e f x y =
 -- the longest token in a place is one
 pub longest_once : (j k : Kind) (a b c d : List ℕ) → a ++ b ≡ c ++ d → IsLongest j a b → IsLongest k c d → (j ≡ k) × (a ≡ c) × (b ≡ d)
 longest_once j k a b c d e x y = elim (fronts a b c d e) [
-    inl m ↦ longest_from j k a b c d m.0 m.1 m.2 x y
-  | inr m ↦ (let r = longest_from k j c d a b m.0 m.1 m.2 y x in (sym r.0, sym r.1, sym r.2)) ]
+  | inl m ↦ longest_from j k a b c d m.0 m.1 m.2 x y
+  | inr m ↦ (let r = longest_from k j c d a b m.0 m.1 m.2 y x in (sym r.0, sym r.1, sym r.2))
+]
 
 no_white : {A : Type 0} (c : ℕ) (k : Kind) (text others rest : List ℕ) → is_white c ≡ true → Spells k text → c ∷ others ≡ text ++ rest → A
 no_white c k text others rest w s e =

@@ -1,12 +1,12 @@
 -- The element or the fault that a lexeme tells.
-use Rattle.std.proofs.Common.{◌≡◌, ◌≢◌, ◌⊎◌, inl, inr, ℕ, zero, suc, ◌+◌, ◌-◌, ◌^◌, ◌<◌, ◌≤◌, Bool, true, false, List, [], ◌∷◌, ◌++◌, length, take, drop, Option, Some, None, refl, sym, ap, subst, ◌∙◌, arith, append_assoc, length-append}
-use Rattle.std.proofs.lemmas.List.{append-nil, take_at, drop_at, length-take}
+use Rattle.std.proofs.Common.{◌≡◌, ◌≢◌, ℕ, ◌+◌, ◌-◌, ◌≤◌, true, List, [], ◌∷◌, ◌++◌, length, take, drop, Option, Some, sym, ap, subst, ◌∙◌, arith, length-append}
+use Rattle.std.proofs.lemmas.List.{take_at}
 use Rattle.std.proofs.lemmas.Str.{encodes-append}
 use Rattle.std.specs.Str.{encode_utf8_all}
 use Rattle.vg_tok.specs.declared.token.Kind.{Kind}
 use Rattle.vg_tok.specs.declared.token.Kind.TheVariants as kinds
 use Rattle.vg_tok.specs.declared.lexeme.Lexeme.TheVariants as lexemes
-use Rattle.vg_tok.specs.Lexing.{byte_len, has_close, IsToken, IsRunOn}
+use Rattle.vg_tok.specs.Lexing.{byte_len, has_close, IsToken}
 use Rattle.vg_tok.specs.Reading.{name_kind, Begins, Means}
 use Rattle.vg_tok.proofs.Lists.{false≢true}
 

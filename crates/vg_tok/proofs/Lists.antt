@@ -1,6 +1,5 @@
 -- Lists cut in two.
-use Rattle.std.proofs.Common.{◌≡◌, ◌≢◌, ◌⊎◌, ℕ, zero, suc, ◌+◌, ◌<◌, ◌≤◌, Bool, true, false, cond, ◌&&◌, ◌||◌, List, [], ◌∷◌, ◌++◌, length, take, drop, refl, sym, ap, subst, ◌∙◌, inl, inr, arith, append_assoc, length-append}
-use Rattle.std.proofs.lemmas.List.{append_cancel_left, append-nil}
+use Rattle.std.proofs.Common.{◌≡◌, ◌⊎◌, ℕ, Bool, true, false, cond, ◌&&◌, ◌||◌, List, [], ◌∷◌, ◌++◌, length, refl, sym, ap, ◌∙◌, inl, inr, arith}
 use Rattle.std.specs.List.{list_all, prefix_len}
 use Rattle.vg_tok.specs.Lexing.{begins_with}
 
@@ -58,13 +57,13 @@ pub record Span (p : ℕ → Bool) (cs : List ℕ) : Type 0 where
 
 span-cons : (p : ℕ → Bool) (c : ℕ) (cs : List ℕ) (b : Bool) → p c ≡ b → Span p cs → Span p (c ∷ cs)
 span-cons p c cs true h s = record {
-    front = c ∷ s.front;
-    rest = s.rest;
-    whole = ap (λ x. c ∷ x) s.whole;
-    len = rw h (omega (arith, s.len));
-    each = rw h s.each;
-    stops = s.stops
-  }
+  front = c ∷ s.front;
+  rest = s.rest;
+  whole = ap (λ x. c ∷ x) s.whole;
+  len = rw h (omega (arith, s.len));
+  each = rw h s.each;
+  stops = s.stops;
+}
 span-cons p c cs false h s = record { front = []; rest = c ∷ cs; whole = refl; len = rw h refl; each = refl; stops = h }
 
 pub span : (p : ℕ → Bool) (cs : List ℕ) → Span p cs

@@ -1,5 +1,5 @@
 -- A row of elements grows by one at its end.
-use Rattle.std.proofs.Common.{◌≡◌, ◌≢◌, ◌⊎◌, inl, inr, ℕ, zero, suc, ◌+◌, ◌-◌, ◌^◌, ◌<◌, ◌≤◌, List, [], ◌∷◌, ◌++◌, length, take, drop, Option, Some, None, refl, sym, ap, subst, ◌∙◌, arith, append_assoc, length-append}
+use Rattle.std.proofs.Common.{◌≡◌, ◌≢◌, inl, inr, ℕ, ◌+◌, ◌≤◌, List, [], ◌∷◌, ◌++◌, take, drop, Option, refl, sym, ap, subst, ◌∙◌, arith, append_assoc}
 use Rattle.std.proofs.lemmas.List.{append-nil, take_at, drop_at}
 use Rattle.vg_tok.specs.declared.token.Token.{Token}
 use Rattle.vg_tok.specs.declared.token.Kind.{Kind}
@@ -17,7 +17,7 @@ AreElements-push : (es : List Element) (e : Element) (rest : List ℕ) → AreEl
 AreElements-push [] e rest x y = (y, tt)
 AreElements-push (f ∷ es) e rest x y =
     let h : spelled es ++ (e.text ++ rest) ≡ spelled (es ++ e ∷ []) ++ rest =
-        sym (append_assoc (spelled es) e.text rest) ∙ ap (λ z. z ++ rest) (sym (spelled-push es e)) in
+    sym (append_assoc (spelled es) e.text rest) ∙ ap (λ z. z ++ rest) (sym (spelled-push es e)) in
     (subst (IsElement f) h x.0, AreElements-push es e rest x.1 y)
 
 tokens_of-push : (at : ℕ) (es : List Element) (e : Element)
@@ -30,8 +30,8 @@ tokens_of-push at (f ∷ es) e =
     let front = placed f.kind at next in
     let n : next + byte_len (spelled es) ≡ at + byte_len (f.text ++ spelled es) = omega (arith, byte_len-append f.text (spelled es)) in
     ap (λ z. front ++ z) (tokens_of-push next es e)
-      ∙ (sym (append_assoc front (tokens_of next es) (placed e.kind (next + byte_len (spelled es)) (next + byte_len (spelled es) + byte_len e.text)))
-      ∙ ap (λ m. (front ++ tokens_of next es) ++ placed e.kind m (m + byte_len e.text)) n)
+    ∙ (sym (append_assoc front (tokens_of next es) (placed e.kind (next + byte_len (spelled es)) (next + byte_len (spelled es) + byte_len e.text)))
+    ∙ ap (λ m. (front ++ tokens_of next es) ++ placed e.kind m (m + byte_len e.text)) n)
 
 pub IsReadTo-start : (cs : List ℕ) → IsReadTo cs [] cs 0
 IsReadTo-start cs = record { elements = []; whole = refl; each = tt; tokens_are = refl; place = refl }
@@ -48,19 +48,19 @@ IsReadTo-more cs ts rest at k n r b =
     let l : byte_len (take n rest) ≡ byte_len b.text = ap byte_len t in
     let es = r.elements in
     let w : cs ≡ spelled (es ++ e ∷ []) ++ b.rest =
-        r.whole ∙ (ap (λ z. spelled es ++ z) b.whole ∙ (sym (append_assoc (spelled es) b.text b.rest) ∙ ap (λ z. z ++ b.rest) (sym (spelled-push es e)))) in
+    r.whole ∙ (ap (λ z. spelled es ++ z) b.whole ∙ (sym (append_assoc (spelled es) b.text b.rest) ∙ ap (λ z. z ++ b.rest) (sym (spelled-push es e)))) in
     let a : AreElements es (b.text ++ b.rest) = subst (AreElements es) b.whole r.each in
     let q : ts ++ placed k at (at + byte_len b.text) ≡ tokens_of 0 (es ++ e ∷ []) =
-        ap (λ z. z ++ placed k at (at + byte_len b.text)) r.tokens_are
-          ∙ (ap (λ m. tokens_of 0 es ++ placed k m (m + byte_len b.text)) (r.place ∙ omega arith) ∙ sym (tokens_of-push 0 es e)) in
+    ap (λ z. z ++ placed k at (at + byte_len b.text)) r.tokens_are
+    ∙ (ap (λ m. tokens_of 0 es ++ placed k m (m + byte_len b.text)) (r.place ∙ omega arith) ∙ sym (tokens_of-push 0 es e)) in
     let m : at + byte_len b.text ≡ byte_len (spelled (es ++ e ∷ [])) =
-        omega (arith, r.place, ap byte_len (spelled-push es e) ∙ byte_len-append (spelled es) b.text) in
+    omega (arith, r.place, ap byte_len (spelled-push es e) ∙ byte_len-append (spelled es) b.text) in
     record {
       elements = es ++ e ∷ [];
       whole = w ∙ ap (λ z. spelled (es ++ e ∷ []) ++ z) (sym d);
       each = subst (AreElements (es ++ e ∷ [])) (sym d) (AreElements-push es e b.rest a b.element);
       tokens_are = ap (λ z. ts ++ placed k at (at + z)) l ∙ q;
-      place = ap (λ z. at + z) l ∙ m
+      place = ap (λ z. at + z) l ∙ m;
     }
 
 pub HaveTokens-all : (cs behind : List ℕ) (ts : List Token) (rest : List ℕ) (at : ℕ) → IsReadTo cs ts rest at → rest ≡ [] → behind ≡ [] → HaveTokens cs behind ts
@@ -103,8 +103,8 @@ IsReadTo-step cs ts us rest text after at len k n r b t a l u =
     let v : us ≡ ts ++ placed k at (at + byte_len (take n rest)) = u ∙ ap (λ z. ts ++ placed k at (at + z)) e in
     let p = IsReadTo-more cs ts rest at k n r b in
     subst (λ (z : ℕ). IsReadTo cs us after (at + z)) (sym e)
-      (subst (λ (z : List ℕ). IsReadTo cs us z (at + byte_len (take n rest))) (sym a)
-        (subst (λ (z : List Token). IsReadTo cs z (drop n rest) (at + byte_len (take n rest))) (sym v) p))
+    (subst (λ (z : List ℕ). IsReadTo cs us z (at + byte_len (take n rest))) (sym a)
+    (subst (λ (z : List Token). IsReadTo cs z (drop n rest) (at + byte_len (take n rest))) (sym v) p))
 
 pub byte_len-front : (n : ℕ) (rest text : List ℕ) (k : Option Kind) → Begins rest k n → text ≡ take n rest → byte_len text ≤ byte_len rest
 byte_len-front n rest text k b t = rw t ((byte_len-take n rest b.text b.rest b.whole b.len_is).1)

@@ -1,10 +1,10 @@
 -- What is found at the front of a text stands there.
-use Rattle.std.proofs.Common.{◌≡◌, ◌≢◌, ◌⊎◌, inl, inr, ℕ, zero, suc, ◌+◌, ◌*◌, ◌^◌, ◌<◌, ◌≤◌, Bool, true, false, cond, not, ◌&&◌, ◌||◌, ◌==◌, eqb, nat_le, nat_lt, IsTrue, List, [], ◌∷◌, ◌++◌, length, take, drop, Option, Some, None, refl, sym, ap, subst, ◌∙◌, arith, append_assoc, length-append}
+use Rattle.std.proofs.Common.{◌≡◌, ◌≢◌, inl, inr, ℕ, ◌+◌, ◌^◌, ◌<◌, ◌≤◌, Bool, true, false, cond, not, ◌&&◌, ◌||◌, ◌==◌, nat_le, nat_lt, List, [], ◌∷◌, ◌++◌, length, take, drop, Option, Some, None, refl, sym, ap, subst, ◌∙◌, arith, append_assoc, length-append}
 use Rattle.std.proofs.lemmas.Bool.Decides.{nat_tests}
-use Rattle.std.proofs.lemmas.List.{append-nil, take_at, drop_at, append_cancel_left, nil_from_length}
+use Rattle.std.proofs.lemmas.List.{append-nil, take_at, drop_at, nil_from_length}
 use Rattle.std.specs.Option.{option_map_or}
 use Rattle.std.specs.List.{list_all, prefix_len}
-use Rattle.std.specs.Char.{is_digit, digit_value}
+use Rattle.std.specs.Char.{is_digit}
 use Rattle.vg_tok.specs.declared.token.Kind.{Kind}
 use Rattle.vg_tok.specs.declared.token.Kind.TheVariants as kinds
 use Rattle.vg_tok.specs.declared.sign.Sign.{Sign}
@@ -13,14 +13,14 @@ use Rattle.vg_tok.specs.declared.number.Base.{Base}
 use Rattle.vg_tok.specs.declared.lexeme.Lexeme.{Lexeme}
 use Rattle.vg_tok.specs.declared.lexeme.Lexeme.TheVariants as lexemes
 use Rattle.vg_tok.specs.Tables.{reserved_words, all_signs}
-use Rattle.vg_tok.specs.Lexing.{is_white, may_start, may_continue, is_string_char, begins_with, is_name, entry_of, radix, prefix, value_from, IsNumber, Spells, begins_comment, has_close, ends_line, IsGap, IsLongest, IsFit, IsToken, IsElement, Element, BeginsNothing, IsOpen, IsWide, IsRunOn}
-use Rattle.vg_tok.specs.Front.{digits_len, close_from, base_at, number_of, number_at, string_at, sign_at, block_at, lexeme_at}
-use Rattle.vg_tok.specs.Reading.{name_or_word, name_kind, Begins, Means}
-use Rattle.vg_tok.proofs.Lists.{false≢true, both, both-from, neither, chosen, is_false, head, tail, Span, span, cut_once, list_all-append}
-use Rattle.vg_tok.proofs.Characters.{Class, White, Letter, Digit, Quote, Other, class, class-start, class-digit, class-quote, class-other}
-use Rattle.vg_tok.proofs.Spelled.{class_of, First, spells-first, one_class, spells-letter, sign-text, is_sign_text}
+use Rattle.vg_tok.specs.Lexing.{is_white, may_start, may_continue, is_string_char, begins_with, is_name, entry_of, radix, prefix, value_from, IsNumber, Spells, begins_comment, has_close, ends_line, IsLongest, IsToken, BeginsNothing}
+use Rattle.vg_tok.specs.Front.{digits_len, close_from, number_of, number_at, string_at, sign_at, block_at, lexeme_at}
+use Rattle.vg_tok.specs.Reading.{name_or_word, Begins, Means}
+use Rattle.vg_tok.proofs.Lists.{false≢true, both, both-from, chosen, head, tail, Span, span, cut_once, list_all-append}
+use Rattle.vg_tok.proofs.Characters.{Letter, Digit, Quote, Other, class, class-quote, class-other}
+use Rattle.vg_tok.proofs.Spelled.{class_of, spells-first, one_class, spells-letter, sign-text}
 use Rattle.vg_tok.proofs.Elements.{has_close-tail}
-use Rattle.vg_tok.proofs.Digits.{eqb-same, DigitSpan, NumberAt, number_here, number_span, number_most}
+use Rattle.vg_tok.proofs.Digits.{eqb-same, NumberAt, number_here, number_span, number_most}
 
 and_false : (b : Bool) → (b && false) ≡ false
 and_false true = refl
@@ -64,7 +64,7 @@ line_means c (d ∷ cs) h =
       whole = cc;
       len_is = omega (arith, s.len);
       some = omega arith;
-      element = inr (inl (s.front, refl, s.each, line_ends s.rest s.stops))
+      element = inr (inl (s.front, refl, s.each, line_ends s.rest s.stops));
     }
 
 -- a `*/` that is found is the first
@@ -89,12 +89,12 @@ first_more p c cs (x ∷ body) rest t e h =
 close_more : (p c i : ℕ) (cs : List ℕ) → (p == 42 && c == 47) ≡ false → (o : Option ℕ) → CloseMeans c cs (i + 1) o → CloseMeans p (c ∷ cs) i o
 close_more p c i cs t None h = or_false (p == 42 && c == 47) (has_close (c ∷ cs)) t h
 close_more p c i cs t (Some n) h = record {
-    body = p ∷ h.body;
-    rest = h.rest;
-    whole = ap (λ z. p ∷ z) h.whole;
-    first = first_more p c cs h.body h.rest t h.whole h.first;
-    place = omega (arith, h.place)
-  }
+  body = p ∷ h.body;
+  rest = h.rest;
+  whole = ap (λ z. p ∷ z) h.whole;
+  first = first_more p c cs h.body h.rest t h.whole h.first;
+  place = omega (arith, h.place);
+}
 
 close_cons : (p c i : ℕ) (cs : List ℕ) (t : Bool) → (p == 42 && c == 47) ≡ t
     → CloseMeans c cs (i + 1) (close_from (i + 1) (c == 42) cs) → CloseMeans p (c ∷ cs) i (close_from i (p == 42) (c ∷ cs))
@@ -118,13 +118,13 @@ block_found : (cs body rest : List ℕ) (n : ℕ) → 0 ∷ cs ≡ body ++ (42 �
     → Begins (47 ∷ 42 ∷ cs) None (n + 2)
 block_found cs [] rest n e h k = absurd (zero_star (head 0 42 cs (47 ∷ rest) e))
 block_found cs (x ∷ body) rest n e h k = record {
-    text = 47 ∷ 42 ∷ (body ++ (42 ∷ 47 ∷ []));
-    rest = rest;
-    whole = ap (λ z. 47 ∷ 42 ∷ z) (tail 0 x cs (body ++ (42 ∷ 47 ∷ rest)) e ∙ sym (append_assoc body (42 ∷ 47 ∷ []) rest));
-    len_is = omega (arith, length-append body (42 ∷ 47 ∷ []));
-    some = omega arith;
-    element = inr (inr (body, refl, has_close-tail x (body ++ 42 ∷ []) h))
-  }
+  text = 47 ∷ 42 ∷ (body ++ (42 ∷ 47 ∷ []));
+  rest = rest;
+  whole = ap (λ z. 47 ∷ 42 ∷ z) (tail 0 x cs (body ++ (42 ∷ 47 ∷ rest)) e ∙ sym (append_assoc body (42 ∷ 47 ∷ []) rest));
+  len_is = omega (arith, length-append body (42 ∷ 47 ∷ []));
+  some = omega arith;
+  element = inr (inr (body, refl, has_close-tail x (body ++ 42 ∷ []) h));
+}
 
 block_of : (cs : List ℕ) (o : Option ℕ) → CloseMeans 0 cs 0 o → Means (option_map_or (λ n. lexemes.Gap (n + 2)) o lexemes.Open) (47 ∷ 42 ∷ cs)
 block_of cs None h = (cs, refl, has_close-tail 0 cs h)
@@ -174,9 +174,14 @@ name_token text rest (Some w) e n h c =
 pub name_means : (c : ℕ) (cs : List ℕ) → may_start c ≡ true → begins_comment (c ∷ cs) ≡ false → Means (lexemes.Name (prefix_len may_continue cs + 1)) (c ∷ cs)
 name_means c cs h n =
     let s = span may_continue cs in
-    let w : c ∷ cs ≡ (c ∷ s.front) ++ s.rest = ap (λ z. c ∷ z) s.whole in
-    (c ∷ s.front, s.rest, w, omega (arith, s.len), omega arith,
-      name_token (c ∷ s.front) s.rest _ refl (both-from (may_start c) (list_all may_continue s.front) h s.each) s.stops (ap begins_comment (sym w) ∙ n))
+    let w : c ∷ cs ≡ (c ∷ s.front) ++ s.rest = ap (λ z. c ∷ z) s.whole in (
+      c ∷ s.front,
+      s.rest,
+      w,
+      omega (arith, s.len),
+      omega arith,
+      name_token (c ∷ s.front) s.rest _ refl (both-from (may_start c) (list_all may_continue s.front) h s.each) s.stops (ap begins_comment (sym w) ∙ n),
+    )
 
 -- Strings.
 
@@ -237,23 +242,25 @@ string_found cs s h rest e n =
     let w : cs ≡ s.front ++ (34 ∷ rest) = s.whole ∙ ap (λ z. s.front ++ z) e in
     let v : 34 ∷ cs ≡ text ++ rest = ap (λ z. 34 ∷ z) (w ∙ sym (append_assoc s.front (34 ∷ []) rest)) in
     let p : Spells (kinds.Str s.front) text = (refl, some_front is_string_char cs s h, s.each) in
-    let l : IsLongest (kinds.Str s.front) text rest = record { spells = p; longest = string_longest s.front rest p; no_comment = ap begins_comment (sym v) ∙ n } in
-    (s.front, omega (arith, s.len),
+    let l : IsLongest (kinds.Str s.front) text rest = record { spells = p; longest = string_longest s.front rest p; no_comment = ap begins_comment (sym v) ∙ n } in (
+      s.front,
+      omega (arith, s.len),
       record { text = text; rest = rest; whole = v; len_is = omega (arith, s.len, length-append s.front (34 ∷ [])); some = omega arith; element = (l, tt) },
-      (rest, ap (λ z. 34 ∷ z) w))
+      (rest, ap (λ z. 34 ∷ z) w),
+    )
 
 string_nothing : (cs : List ℕ) (s : Span is_string_char cs) → (nat_lt 0 (prefix_len is_string_char cs) && begins_with (λ c. c == 34) s.rest) ≡ false
     → BeginsNothing (34 ∷ cs)
 string_nothing cs s h = record {
-    some = λ e. cons_not_nil 34 cs e;
-    no_white = refl;
-    no_token = λ k text rest e p.
+  some = λ e. cons_not_nil 34 cs e;
+  no_white = refl;
+  no_token = λ k text rest e p.
       (let q = spells_quote k text p (sym (first_class k 34 cs text rest e p) ∙ class-quote) in
-       let f : cs ≡ q.0 ++ (34 ∷ rest) = tail 34 34 cs _ (e ∙ ap (λ z. z ++ rest) q.1) ∙ append_assoc q.0 (34 ∷ []) rest in
-       let g = cut_once is_string_char s.front s.rest q.0 (34 ∷ rest) (sym s.whole ∙ f) s.each q.3 s.stops refl in
-       let l : 0 < prefix_len is_string_char cs = some_len q.0 (prefix_len is_string_char cs) (sym s.len ∙ ap length g.0) q.2 in
-       false≢true (sym h ∙ both-from _ _ (lt_test 0 _ l) (ap (begins_with (λ (z : ℕ). z == 34)) g.1)))
-  }
+      let f : cs ≡ q.0 ++ (34 ∷ rest) = tail 34 34 cs _ (e ∙ ap (λ z. z ++ rest) q.1) ∙ append_assoc q.0 (34 ∷ []) rest in
+      let g = cut_once is_string_char s.front s.rest q.0 (34 ∷ rest) (sym s.whole ∙ f) s.each q.3 s.stops refl in
+      let l : 0 < prefix_len is_string_char cs = some_len q.0 (prefix_len is_string_char cs) (sym s.len ∙ ap length g.0) q.2 in
+      false≢true (sym h ∙ both-from _ _ (lt_test 0 _ l) (ap (begins_with (λ (z : ℕ). z == 34)) g.1)));
+}
 
 string_means : (cs : List ℕ) → begins_comment (34 ∷ cs) ≡ false → Means (string_at cs) (34 ∷ cs)
 unfolding string_at
@@ -263,9 +270,9 @@ string_means cs n =
     let d : drop m cs ≡ s.rest = ap (drop m) s.whole ∙ drop_at s.front s.rest m s.len in
     let P : List ℕ → Type 0 = λ r. Means (cond (nat_lt 0 m && begins_with (λ c. c == 34) r) (lexemes.Str (m + 2)) lexemes.Bad) (34 ∷ cs) in
     subst P (sym d) (chosen (nat_lt 0 m && begins_with (λ c. c == 34) s.rest) (lexemes.Str (m + 2)) lexemes.Bad (λ l. Means l (34 ∷ cs))
-      (λ h. let q = both (nat_lt 0 m) (begins_with (λ (c : ℕ). c == 34) s.rest) h in
-            let r = begun 34 s.rest q.1 in string_found cs s q.0 r.0 r.1 n)
-      (λ h. string_nothing cs s h))
+    (λ h. let q = both (nat_lt 0 m) (begins_with (λ (c : ℕ). c == 34) s.rest) h in
+    let r = begun 34 s.rest q.1 in string_found cs s q.0 r.0 r.1 n)
+    (λ h. string_nothing cs s h))
 
 pub string_here : (c : ℕ) (cs : List ℕ) → (c == 34) ≡ true → begins_comment (c ∷ cs) ≡ false → Means (string_at cs) (c ∷ cs)
 string_here c cs h n =
@@ -298,10 +305,10 @@ number_cases : (cs : List ℕ) (v : ℕ) (text rest : List ℕ) (n : ℕ) → cs
     → Means (cond (nat_le (2 ^ 128) v) lexemes.Wide (cond (begins_with may_continue rest) (lexemes.RunOn n) (lexemes.Number v n))) cs
 number_cases cs v text rest n w m l =
     chosen (nat_le (2 ^ 128) v) lexemes.Wide _ (λ x. Means x cs)
-      (λ h. (v, text, rest, w, l, le_from_test (2 ^ 128) v h))
-      (λ h. chosen (begins_with may_continue rest) (lexemes.RunOn n) (lexemes.Number v n) (λ x. Means x cs)
-        (λ k. (text, m, (v, rest, w, l, lt_from_not (2 ^ 128) v h, k)))
-        (λ k. record { text = text; rest = rest; whole = w; len_is = m; some = number_some v text n l.spells m; element = (l, (lt_from_not (2 ^ 128) v h, k)) }))
+    (λ h. (v, text, rest, w, l, le_from_test (2 ^ 128) v h))
+    (λ h. chosen (begins_with may_continue rest) (lexemes.RunOn n) (lexemes.Number v n) (λ x. Means x cs)
+    (λ k. (text, m, (v, rest, w, l, lt_from_not (2 ^ 128) v h, k)))
+    (λ k. record { text = text; rest = rest; whole = w; len_is = m; some = number_some v text n l.spells m; element = (l, (lt_from_not (2 ^ 128) v h, k)) }))
 
 number_of_means : (cs : List ℕ) (b : Base) (at : NumberAt cs b) → begins_comment cs ≡ false
     → Means (number_of (radix b) (length (prefix b)) at.digits) cs
@@ -319,12 +326,12 @@ number_of_means cs b at c =
     let l : IsLongest (kinds.Number v) text s.rest = record {
       spells = p;
       longest = number_longest cs b at v text s.rest w m p;
-      no_comment = ap begins_comment (sym w) ∙ c
+      no_comment = ap begins_comment (sym w) ∙ c;
     } in
     let P : List ℕ → List ℕ → Type 0 = λ x y. Means (cond (nat_le (2 ^ 128) (value_from (radix b) 0 x)) lexemes.Wide
-        (cond (begins_with may_continue y) (lexemes.RunOn (skip + n)) (lexemes.Number (value_from (radix b) 0 x) (skip + n)))) cs in
+    (cond (begins_with may_continue y) (lexemes.RunOn (skip + n)) (lexemes.Number (value_from (radix b) 0 x) (skip + n)))) cs in
     subst (λ (x : List ℕ). P x (drop n at.digits)) (sym f) (subst (λ (y : List ℕ). P s.front y) (sym g)
-      (number_cases cs v text s.rest (skip + n) w m l))
+    (number_cases cs v text s.rest (skip + n) w m l))
 
 pub number_means : (c : ℕ) (cs : List ℕ) → is_digit c 10 ≡ true → begins_comment (c ∷ cs) ≡ false → Means (number_at (c ∷ cs)) (c ∷ cs)
 unfolding number_at
@@ -332,7 +339,7 @@ number_means c cs h n =
     let f = number_here c cs h in
     let all = c ∷ cs in
     let d : drop (length (prefix f.0)) all ≡ f.1.digits =
-        ap (drop (length (prefix f.0))) f.1.whole ∙ drop_at (prefix f.0) f.1.digits (length (prefix f.0)) refl in
+    ap (drop (length (prefix f.0))) f.1.whole ∙ drop_at (prefix f.0) f.1.digits (length (prefix f.0)) refl in
     let P : Base → Type 0 = λ b. Means (number_of (radix b) (length (prefix b)) (drop (length (prefix b)) all)) all in
     let Q : List ℕ → Type 0 = λ ds. Means (number_of (radix f.0) (length (prefix f.0)) ds) all in
     subst P (sym f.1.base_is) (subst Q (sym d) (number_of_means all f.0 f.1 n))
@@ -401,7 +408,7 @@ two_found c d ds s o n e =
     let l : IsLongest (kinds.Sign s) (c ∷ d ∷ []) ds = record {
       spells = e;
       longest = λ more others j h r. two_longest c d more j o r;
-      no_comment = n
+      no_comment = n;
     } in
     record { text = c ∷ d ∷ []; rest = ds; whole = refl; len_is = refl; some = omega arith; element = (l, tt) }
 
@@ -411,17 +418,17 @@ one_found c cs s o n e two =
     let l : IsLongest (kinds.Sign s) (c ∷ []) cs = record {
       spells = e;
       longest = λ more others j h r. one_longest c cs more others j o two h r;
-      no_comment = n
+      no_comment = n;
     } in
     record { text = c ∷ []; rest = cs; whole = refl; len_is = refl; some = omega arith; element = (l, tt) }
 
 none_found : (c : ℕ) (cs : List ℕ) → class c ≡ Other → is_white c ≡ false → entry_of all_signs (c ∷ []) ≡ None
     → ((d : ℕ) (ds : List ℕ) → cs ≡ d ∷ ds → entry_of all_signs (c ∷ d ∷ []) ≡ None) → BeginsNothing (c ∷ cs)
 none_found c cs o w e two = record {
-    some = λ h. cons_not_nil c cs h;
-    no_white = w;
-    no_token = λ k text rest h p. (let s = sign_there k c cs text rest o h p in none_there c cs text rest s.0 e two h s.1)
-  }
+  some = λ h. cons_not_nil c cs h;
+  no_white = w;
+  no_token = λ k text rest h p. (let s = sign_there k c cs text rest o h p in none_there c cs text rest s.0 e two h s.1);
+}
 
 sign_one : (c : ℕ) (cs : List ℕ) (o : Option Sign) → entry_of all_signs (c ∷ []) ≡ o → class c ≡ Other → is_white c ≡ false → begins_comment (c ∷ cs) ≡ false
     → ((d : ℕ) (ds : List ℕ) → cs ≡ d ∷ ds → entry_of all_signs (c ∷ d ∷ []) ≡ None)

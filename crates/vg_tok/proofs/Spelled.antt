@@ -1,17 +1,17 @@
 -- A text spells one token at most, and its first character says of which class.
-use Rattle.std.proofs.Common.{◌≡◌, ◌≢◌, ◌⊎◌, inl, inr, ℕ, zero, suc, ◌+◌, ◌*◌, ◌<◌, ◌≤◌, Bool, true, false, cond, not, ◌&&◌, ◌||◌, ◌==◌, eqb, nat_le, IsTrue, List, [], ◌∷◌, ◌++◌, length, Option, Some, None, refl, sym, ap, subst, ◌∙◌, arith, lit<}
+use Rattle.std.proofs.Common.{◌≡◌, ℕ, Bool, true, false, ◌&&◌, eqb, nat_le, List, [], ◌∷◌, ◌++◌, length, Some, None, refl, sym, ap, subst, ◌∙◌, arith}
 use Rattle.std.proofs.lemmas.Bool.Decides.{nat_tests}
 use Rattle.std.proofs.lemmas.List.{append_cancel_left, append_cancel_right}
-use Rattle.std.specs.Char.{is_digit, digit_value, is_ascii_alphabetic}
+use Rattle.std.specs.Char.{is_digit}
 use Rattle.std.specs.List.{list_all}
 use Rattle.vg_tok.specs.declared.token.Kind.{Kind}
 use Rattle.vg_tok.specs.declared.token.Kind.TheVariants as kinds
 use Rattle.vg_tok.specs.declared.number.Base.{Base}
 use Rattle.vg_tok.specs.declared.number.Base.TheVariants.{Decimal, Hexadecimal, Binary}
 use Rattle.vg_tok.specs.Tables.{reserved_words, all_signs}
-use Rattle.vg_tok.specs.Lexing.{is_white, may_start, may_continue, is_name, same_text, entry_of, radix, prefix, go_on, are_digits, value_from, IsNumber, Spells}
-use Rattle.vg_tok.proofs.Lists.{false≢true, both, both-from, head, tail}
-use Rattle.vg_tok.proofs.Characters.{Class, White, Letter, Digit, Quote, Other, class, class-start, class-digit, class-quote, class-sign, is_sign_char, are_letters, name-letters}
+use Rattle.vg_tok.specs.Lexing.{may_start, may_continue, is_name, same_text, entry_of, radix, prefix, go_on, are_digits, value_from, IsNumber, Spells}
+use Rattle.vg_tok.proofs.Lists.{false≢true, both, head, tail}
+use Rattle.vg_tok.proofs.Characters.{Class, Letter, Digit, Quote, Other, class, class-start, class-digit, class-quote, class-sign, is_sign_char, are_letters, name-letters}
 
 pub same_text-same : (s t : List ℕ) → same_text s t ≡ true → s ≡ t
 same_text-same [] [] h = refl

@@ -1,11 +1,10 @@
 -- One step of each loop over a text.
-use Rattle.std.proofs.Common.{◌≡◌, ℕ, zero, suc, ◌+◌, ◌*◌, ◌<◌, ◌≤◌, Bool, true, false, cond, ◌&&◌, eqb, List, [], ◌∷◌, length, get_or, drop, Option, Some, None, refl, sym, ap, ◌∙◌, arith}
+use Rattle.std.proofs.Common.{◌≡◌, ℕ, suc, ◌+◌, ◌*◌, ◌<◌, ◌≤◌, Bool, true, false, cond, ◌&&◌, eqb, List, [], ◌∷◌, length, get_or, drop, Some, None, refl, sym, ap, ◌∙◌, arith}
 use Rattle.std.proofs.lemmas.List.{at_drop_more, at_drop_all, drop_more}
 use Rattle.std.proofs.Math.Nat.{mul-le-mul_left}
-use Rattle.std.proofs.Common.{length-append, length-drop, ◌++◌, ◌||◌}
+use Rattle.std.proofs.Common.{length-append, length-drop, ◌||◌}
 use Rattle.std.proofs.lemmas.Str.{length-encode}
-use Rattle.std.specs.Char.{is_digit, digit_value, len_utf8, encode_utf8}
-use Rattle.std.specs.Str.{encode_utf8_all}
+use Rattle.std.specs.Char.{is_digit, digit_value, len_utf8}
 use Rattle.vg_tok.specs.Lexing.{same_text, value_from, byte_len, has_close}
 use Rattle.vg_tok.specs.Front.{close_from, digits_from}
 
@@ -27,8 +26,8 @@ close_from-end text i star h = at_drop_all (close_from i star) text i h
 
 pub digits_from-drop : (text : List ℕ) (base i len : ℕ) (after : Bool) → i < length text
     → digits_from base i len after (drop i text)
-      ≡ cond (is_digit (get_or text i 0) base) (digits_from base (i + 1) (i + 1) true (drop (i + 1) text))
-        (cond (after && eqb (get_or text i 0) 39) (digits_from base (i + 1) len false (drop (i + 1) text)) len)
+    ≡ cond (is_digit (get_or text i 0) base) (digits_from base (i + 1) (i + 1) true (drop (i + 1) text))
+    (cond (after && eqb (get_or text i 0) 39) (digits_from base (i + 1) len false (drop (i + 1) text)) len)
 digits_from-drop text base i len after h = at_drop_more (digits_from base i len after) text i 0 h
 
 pub digits_from-end : (text : List ℕ) (base i len : ℕ) (after : Bool) → length text ≤ i → digits_from base i len after (drop i text) ≡ len
@@ -36,7 +35,7 @@ digits_from-end text base i len after h = at_drop_all (digits_from base i len af
 
 pub value_from-drop : (text : List ℕ) (base n i : ℕ) → i < length text
     → value_from base n (drop i text)
-      ≡ cond (eqb (get_or text i 0) 39) (value_from base n (drop (i + 1) text)) (value_from base (n * base + digit_value (get_or text i 0)) (drop (i + 1) text))
+    ≡ cond (eqb (get_or text i 0) 39) (value_from base n (drop (i + 1) text)) (value_from base (n * base + digit_value (get_or text i 0)) (drop (i + 1) text))
 value_from-drop text base n i h = at_drop_more (value_from base n) text i 0 h
 
 pub value_from-end : (text : List ℕ) (base n i : ℕ) → length text ≤ i → value_from base n (drop i text) ≡ n
@@ -62,11 +61,14 @@ value_from-le base n [] h = omega arith
 value_from-le base n (c ∷ cs) h =
     cond_elim (eqb c 39) (value_from-le base n cs h)
     (let e = value_from-le base (n * base + digit_value c) cs h in
-     let m : n * 1 ≤ n * base = mul-le-mul_left n h in omega (arith, e, m))
+    let m : n * 1 ≤ n * base = mul-le-mul_left n h in omega (arith, e, m))
 
 pub ruleset close_steps = (close_from-drop, close_from-end)
+
 pub ruleset digit_steps = (digits_from-drop, digits_from-end)
+
 pub ruleset value_steps = (value_from-drop, value_from-end, value_from-le)
+
 pub ruleset text_steps = (same_text-drop, same_text-end, same_text-lengths)
 
 pub byte_len-cons : (c : ℕ) (cs : List ℕ) → byte_len (c ∷ cs) ≡ len_utf8 c + byte_len cs

@@ -1,8 +1,8 @@
 -- A text has one list of tokens, or else one first fault.
-use Rattle.std.proofs.Common.{◌≡◌, ◌≢◌, ◌⊎◌, inl, inr, ℕ, zero, suc, ◌+◌, ◌*◌, ◌^◌, ◌<◌, ◌≤◌, Bool, true, false, cond, not, ◌&&◌, ◌||◌, ◌==◌, eqb, IsTrue, List, [], ◌∷◌, ◌++◌, length, Option, Some, None, refl, sym, ap, subst, ◌∙◌, arith, append_assoc}
+use Rattle.std.proofs.Common.{◌≡◌, ◌⊎◌, inl, inr, ℕ, ◌+◌, ◌^◌, ◌<◌, ◌≤◌, Bool, true, false, ◌&&◌, ◌||◌, ◌==◌, List, [], ◌∷◌, ◌++◌, Option, Some, None, refl, sym, ap, subst, ◌∙◌, arith, append_assoc}
 use Rattle.std.proofs.lemmas.List.{append-nil}
 use Rattle.std.proofs.lemmas.Str.{encode_same}
-use Rattle.std.specs.Char.{encode_utf8, IsScalar}
+use Rattle.std.specs.Char.{encode_utf8}
 use Rattle.std.specs.Str.{encode_utf8_all, all_scalars, StartsWithNoChar}
 use Rattle.vg_tok.specs.declared.token.Kind.{Kind}
 use Rattle.vg_tok.specs.declared.token.Kind.TheVariants as kinds
@@ -10,9 +10,9 @@ use Rattle.vg_tok.specs.declared.token.Token.{Token}
 use Rattle.vg_tok.specs.declared.sign.Sign.TheVariants.{Slash}
 use Rattle.vg_tok.specs.declared.fault.TokFault.{TokFault}
 use Rattle.vg_tok.specs.declared.fault.TokFault.TheVariants as faults
-use Rattle.vg_tok.specs.Lexing.{is_white, may_continue, begins_with, Spells, begins_comment, has_close, IsLineComment, IsBlockComment, IsGap, IsLongest, IsFit, IsToken, Element, IsElement, AreElements, spelled, byte_len, tokens_of, AreDecoded, Lexes, BeginsNothing, IsOpen, IsWide, IsRunOn, IsFaultAhead, IsFault}
+use Rattle.vg_tok.specs.Lexing.{is_white, may_continue, begins_with, begins_comment, has_close, IsGap, IsLongest, IsFit, IsToken, Element, IsElement, AreElements, spelled, byte_len, tokens_of, AreDecoded, Lexes, BeginsNothing, IsOpen, IsWide, IsRunOn, IsFaultAhead, IsFault}
 use Rattle.vg_tok.proofs.Lists.{false≢true, both, head, tail}
-use Rattle.vg_tok.proofs.Spelled.{First, spells-first}
+use Rattle.vg_tok.proofs.Spelled.{spells-first}
 use Rattle.vg_tok.proofs.Elements.{apart, longest_once, gap_no_token, not_white, block_text, element_once}
 
 -- A number at the front of a text is nothing else.
@@ -216,7 +216,7 @@ decoded_same (x ∷ cs) [] b d s t n m e =
     absurd (m x (encode_utf8_all cs ++ b) (both _ (all_scalars cs) s).0 (sym e ∙ append_assoc (encode_utf8 x) (encode_utf8_all cs) b))
 decoded_same (x ∷ cs) (y ∷ ds) b d s t n m e =
     let h = encode_same x y (encode_utf8_all cs ++ b) (encode_utf8_all ds ++ d)
-        (sym (append_assoc (encode_utf8 x) (encode_utf8_all cs) b) ∙ (e ∙ append_assoc (encode_utf8 y) (encode_utf8_all ds) d)) in
+    (sym (append_assoc (encode_utf8 x) (encode_utf8_all cs) b) ∙ (e ∙ append_assoc (encode_utf8 y) (encode_utf8_all ds) d)) in
     let r = decoded_same cs ds b d (both _ (all_scalars cs) s).1 (both _ (all_scalars ds) t).1 n m h.1 in
     let a : x ≡ y = h.0 in
     let c : cs ≡ ds = r.0 in
@@ -243,12 +243,12 @@ reading_once bytes es fs o p x y =
 
 reading-tokens : (bytes : List ℕ) (ts : List Token) → (h : Lexes bytes ts) → Reading bytes h.0 None
 reading-tokens bytes ts h = record {
-    ahead = [];
-    behind = [];
-    decoded = subst (λ (cs : List ℕ). AreDecoded bytes cs []) (sym (append-nil (spelled h.0))) h.1;
-    each = h.2;
-    ends = (refl, refl)
-  }
+  ahead = [];
+  behind = [];
+  decoded = subst (λ (cs : List ℕ). AreDecoded bytes cs []) (sym (append-nil (spelled h.0))) h.1;
+  each = h.2;
+  ends = (refl, refl);
+}
 
 reading-fault : (bytes : List ℕ) (f : TokFault) → (h : IsFault bytes f) → Reading bytes h.0 (Some f)
 reading-fault bytes f h = record { ahead = h.1; behind = h.2; decoded = h.3; each = h.4; ends = h.5 }

@@ -4,3 +4,4 @@ pub mod Front
 pub mod Rows
 pub mod Decode
 pub mod Reading
+pub mod Order

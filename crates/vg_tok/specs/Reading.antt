@@ -1,5 +1,5 @@
 -- How far a text is read.
-use Rattle.std.specs.Prelude.{◌≡◌, ◌⊎◌, ℕ, ◌+◌, ◌^◌, ◌<◌, ◌≤◌, List, [], ◌∷◌, ◌++◌, length, Option, Some, None, Result, Ok, Err, MatchResult}
+use Rattle.std.specs.Prelude.{◌≡◌, ◌⊎◌, ℕ, ◌+◌, ◌<◌, List, [], ◌∷◌, ◌++◌, length, Option, Some, None}
 use Rattle.vg_tok.specs.declared.token.Kind.{Kind}
 use Rattle.vg_tok.specs.declared.token.Kind.TheVariants as kinds
 use Rattle.vg_tok.specs.declared.token.Token.{Token}
@@ -9,7 +9,7 @@ use Rattle.vg_tok.specs.declared.lexeme.Lexeme.{Lexeme}
 use Rattle.vg_tok.specs.declared.lexeme.Lexeme.TheVariants as lexemes
 use Rattle.vg_tok.specs.declared.word.Word.{Word}
 use Rattle.vg_tok.specs.Tables.{reserved_words}
-use Rattle.vg_tok.specs.Lexing.{Element, IsElement, AreElements, spelled, tokens_of, byte_len, entry_of, IsFaultAhead, IsGap, IsToken, IsWide, IsRunOn, IsOpen, BeginsNothing}
+use Rattle.vg_tok.specs.Lexing.{Element, IsElement, AreElements, spelled, tokens_of, byte_len, entry_of, IsFaultAhead, IsToken, IsWide, IsRunOn, IsOpen, BeginsNothing}
 
 -- a reserved word, or else a name
 abbrev pub name_or_word : List ℕ → Option Word → Kind

@@ -1,4 +1,4 @@
-ghost use Rattle.std.specs.Prelude.{◌≡◌, ℕ, List};
+ghost use Rattle.std.specs.Prelude.{◌≡◌, ◌⊎◌, ℕ, List};
 ghost use Rattle.vg_tok.specs.declared.token.Token.{Token};
 ghost use Rattle.vg_tok.specs.declared.fault.TokFault.{TokFault};
 ghost use Rattle.vg_tok.specs.Lexing.{Lexes, IsFault};
@@ -7,6 +7,6 @@ ghost use Rattle.vg_tok.specs.Lexing.{Lexes, IsFault};
 pub fn one_reading()
     ensures tokens { (bytes : List ℕ) (ts us : List Token) → Lexes bytes ts → Lexes bytes us → ts ≡ us }
     ensures fault { (bytes : List ℕ) (f g : TokFault) → IsFault bytes f → IsFault bytes g → f ≡ g }
+    ensures some { (bytes : List ℕ) → ((ts : List Token) × Lexes bytes ts) ⊎ ((f : TokFault) × IsFault bytes f) }
     ensures either { (bytes : List ℕ) (ts : List Token) (f : TokFault) → Lexes bytes ts → IsFault bytes f → ⊥ }
-{
-}
+{}

@@ -2,6 +2,7 @@ ghost use Rattle.std.specs.Prelude.{◌≡◌, ◌⊎◌, ◌+◌, ◌^◌, ◌<
 ghost use Rattle.vg_tok.specs.declared.token.Token.{Token};
 ghost use Rattle.vg_tok.specs.declared.fault.TokFault.{TokFault};
 ghost use Rattle.vg_tok.specs.Lexing.{Lexes, IsFault, IsFaultAhead, byte_len, has_close};
+ghost use Rattle.vg_tok.specs.Order.{AreInOrder};
 ghost use Rattle.vg_tok.specs.Reading.{Begins, Means, name_kind, IsFaultOr, IsReadTo, HaveTokens, HaveFault};
 
 use crate::decode::{byte_len, decoded};
@@ -88,11 +89,7 @@ fn element_at(
 }
 
 /// The tokens of these characters, where these bytes behind them begin with no character.
-fn tokens_of(
-    alloc: Global,
-    characters: &[char],
-    behind: &[u8],
-) -> Result<Items<Token>, TokFault>
+fn tokens_of(alloc: Global, characters: &[char], behind: &[u8]) -> Result<Items<Token>, TokFault>
     requires { byte_len characters.now < 2 ^ 64 }
     ensures tokens { IfOk result (λ tokens. HaveTokens characters.now behind.now tokens) }
     ensures fault { IfErr result (λ fault. IsFaultOr fault (HaveFault characters.now behind.now fault)) }
@@ -134,6 +131,7 @@ pub fn tokens(alloc: Global, text: &[u8]) -> Result<Items<Token>, TokFault>
     // What is answered is so.
     ensures tokens { IfOk result (λ tokens. Lexes text.now tokens) }
     ensures fault { IfErr result (λ fault. (fault ≡ TokFault.OutOfMemory) ⊎ IsFault text.now fault) }
+    ensures in_order { IfOk result (λ tokens. AreInOrder 0 tokens (length text.now)) }
 
     // Where a text has tokens or a fault, it is answered, unless memory runs out.
     ensures accepts { (ts : List Token) → Lexes text.now ts

@@ -1,5 +1,5 @@
-use Rattle.std.proofs.Common.{◌≡◌, IfOk, true, rules}
-use Rattle.std.specs.Str.{encode_utf8_all, all_scalars}
+use Rattle.std.proofs.Common.{◌≡◌, IfOk, rules}
+use Rattle.std.specs.Str.{encode_utf8_all}
 use Rattle.std.proofs.lemmas.Result.{IfOk-weaker}
 use Rattle.vg_tok.proofs.Decoding.{scalars-from_encodes}
 use Rattle.vg_tok.proofs.decode.characters_of.Goals as goal

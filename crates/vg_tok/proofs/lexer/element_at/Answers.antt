@@ -1,8 +1,7 @@
 -- By what the lexeme at the front of the text means.
-use Rattle.std.proofs.Common.{◌≡◌, ◌+◌, ◌≤◌, ap, refl, ◌∙◌, sym, inl, inr, arith, length}
+use Rattle.std.proofs.Common.{◌≡◌, ◌+◌, ap, refl, ◌∙◌, sym, inl, inr, arith, length}
 use Rattle.vg_tok.specs.declared.lexeme.Lexeme.TheVariants as lexemes
 use Rattle.vg_tok.specs.Lexing.{byte_len}
-use Rattle.vg_tok.specs.Reading.{Means}
 use Rattle.vg_tok.proofs.Sound.{means_at}
 use Rattle.vg_tok.proofs.Found.{byte_len-take, taken, name_begins, string_fits, string_begins, closed_some}
 use Rattle.vg_tok.proofs.lexer.element_at.Goals as goal

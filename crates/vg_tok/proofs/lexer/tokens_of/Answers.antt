@@ -2,7 +2,7 @@
 use Rattle.std.proofs.Common.{◌+◌, ◌++◌, ◌∙◌, sym, ap, arith}
 use Rattle.std.proofs.lemmas.List.{append-nil}
 use Rattle.vg_tok.specs.Lexing.{placed}
-use Rattle.vg_tok.proofs.Rows.{IsReadTo-fits, IsReadTo-step, byte_len-front, IsReadTo-start, HaveTokens-all, HaveFault-or, HaveFault-behind}
+use Rattle.vg_tok.proofs.Rows.{IsReadTo-fits, IsReadTo-step, byte_len-front}
 use Rattle.vg_tok.proofs.lexer.tokens_of.Goals as goal
 
 pub element_at-requires-clause-fits : goal.element_at-requires-clause-fits
@@ -20,10 +20,10 @@ pub loop-rest-preserved-in_ok-push-in-Some : goal.loop-rest-preserved-in_ok-push
 loop-rest-preserved-in_ok-push-in-Some c =
     let placed_is = ap (λ k. c.loop-rest.tokens ++ placed k c.loop-rest.at (c.loop-rest.at + c.byte_len.result)) (sym c.in-Some.is) in
     IsReadTo-step _ _ _ _ _ _ _ _ _ _ c.loop-rest.invariant c.in_ok-kind.ensures.element c.split_at.ensures.front c.split_at.ensures.back
-      c.byte_len.ensures (c.in_ok-push-in-Some.ensures.ok ∙ placed_is)
+    c.byte_len.ensures (c.in_ok-push-in-Some.ensures.ok ∙ placed_is)
 
 pub loop-rest-preserved : goal.loop-rest-preserved
 loop-rest-preserved c =
     let placed_is = ap (λ k. c.loop-rest.tokens ++ placed k c.loop-rest.at (c.loop-rest.at + c.byte_len.result)) (sym c.in-None.is) in
     IsReadTo-step _ _ _ _ _ _ _ _ _ _ c.loop-rest.invariant c.in_ok-kind.ensures.element c.split_at.ensures.front c.split_at.ensures.back
-      c.byte_len.ensures (sym (append-nil c.loop-rest.tokens) ∙ placed_is)
+    c.byte_len.ensures (sym (append-nil c.loop-rest.tokens) ∙ placed_is)

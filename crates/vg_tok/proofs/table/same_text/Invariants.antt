@@ -1,4 +1,4 @@
-use Rattle.std.proofs.Common.{◌≡◌, drop, length}
+use Rattle.std.proofs.Common.{◌≡◌, drop}
 use Rattle.vg_tok.specs.Lexing.{same_text}
 use Rattle.vg_tok.proofs.table.same_text.Given as goal
 
