@@ -1,16 +1,15 @@
 -- What the lists are after a change of links.
-use Rattle.std.proofs.Common.{◌≡◌, ◌≢◌, ℕ, zero, suc, ◌+◌, ◌<◌, ◌≤◌, ◌⊎◌, inl, inr, List, [], ◌∷◌, ◌++◌, length, map, get_or, set, Option, Some, None, sym, refl, ap, ◌∙◌, subst, arith, length-append}
-use Rattle.std.specs.Prelude.{slice_get}
+use Rattle.std.proofs.Common.{◌≡◌, ◌≢◌, ℕ, ◌<◌, inl, inr, List, [], ◌∷◌, ◌++◌, length, map, get_or, set, sym, refl, ap, ◌∙◌, subst, arith}
 use Rattle.std.proofs.lemmas.Bool.Decides.{eqb_tells}
 use Rattle.std.proofs.lemmas.List.{length-map, length-set, get_or-set_same, get_or-set_other, append-nil, set-get_or}
 use Rattle.vg_list.specs.declared.link.Link.{Link}
 use Rattle.vg_list.specs.declared.link.Link.TheVariants.{Node, Sentinel, Unlinked}
 use Rattle.vg_list.specs.declared.arena.Arena.{Arena}
-use Rattle.vg_list.specs.NodeLists.{NodeLists, nodes_of, IsAt, IsLinked, IsDisjoint, inserted_before, without}
-use Rattle.vg_list.specs.Arena.{next_link, prev_link, IsInRange, IsChain, lists_of, Represents, IsSound, Joins, Clears, SameCounts}
-use Rattle.vg_list.proofs.Chains.{same_node, node_sentinel, node_unlinked, sentinel_unlinked, same_sentinel, next-prev, prev-next, next-prev_end, prev-next_first, prev_self, IsInsertion, IsRemoval, IsSplice, IsChain_inserted, IsChain_pushed, IsChain_not_pushed, IsChain_removed, IsChain_joined, IsChain_not_spliced, IsChain_kept}
+use Rattle.vg_list.specs.NodeLists.{NodeLists, nodes_of, IsAt, IsLinked, inserted_before, without}
+use Rattle.vg_list.specs.Arena.{next_link, prev_link, IsChain, Represents, IsSound, Joins, Clears, SameCounts}
+use Rattle.vg_list.proofs.Chains.{same_node, node_sentinel, node_unlinked, sentinel_unlinked, same_sentinel, next-prev, prev-next, next-prev_end, prev-next_first, prev_self, IsInsertion, IsRemoval, IsSplice, IsChain_inserted, IsChain_pushed, IsChain_not_pushed, IsChain_removed, IsChain_joined, IsChain_not_spliced}
 use Rattle.vg_list.proofs.Places.{Has, Has-inserted_before, Has-inserted_before_node, Has-without, Has-append_left, Has-append_right, get_or-map_lists}
-use Rattle.vg_list.proofs.Representation.{leads_or_not, lists_of-Represents, ring_at, list_in_range, leads_from_at, IsDisjoint_from_sound}
+use Rattle.vg_list.proofs.Representation.{leads_or_not, lists_of-Represents, ring_at, leads_from_at}
 
 -- links that represent lists are sound
 pub IsSound_from_Represents : (a : Arena) (all : NodeLists) → Represents a all → IsSound a

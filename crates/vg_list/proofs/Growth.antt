@@ -8,7 +8,7 @@ use Rattle.std.proofs.lemmas.List.FromFn.{length-map-range_with_len, get_or-map-
 use Rattle.vg_list.specs.declared.link.Link.{Link}
 use Rattle.vg_list.specs.declared.link.Link.TheVariants.{Node, Sentinel, Unlinked}
 use Rattle.vg_list.specs.declared.arena.Arena.{Arena}
-use Rattle.vg_list.specs.NodeLists.{NodeLists, nodes_of, IsLinked}
+use Rattle.vg_list.specs.NodeLists.{NodeLists, nodes_of}
 use Rattle.vg_list.specs.Arena.{no_links, empty_ring, next_link, prev_link, lists_of, Represents, IsSound, Grows, SameLinks}
 use Rattle.vg_list.proofs.Chains.{sentinel_unlinked, IsChain_kept}
 use Rattle.vg_list.proofs.Representation.{in_range_from_next, in_range_from_prev, lists_of-Represents}

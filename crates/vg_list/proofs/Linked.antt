@@ -1,6 +1,6 @@
 -- Which nodes are linked after a change, for callers that keep a fact on all nodes.
-use Rattle.std.proofs.Common.{◌≡◌, ◌≢◌, ℕ, zero, suc, ◌+◌, ◌<◌, ◌⊎◌, inl, inr, Bool, true, false, cond, List, [], ◌∷◌, ◌++◌, length, set, Some, sym, refl, ap, ◌∙◌, subst, arith}
-use Rattle.std.specs.Prelude.{◌↔◌, slice_get}
+use Rattle.std.proofs.Common.{◌≡◌, ◌≢◌, ℕ, zero, suc, ◌<◌, ◌⊎◌, inl, inr, Bool, cond, List, [], ◌∷◌, ◌++◌, length, set, Some, sym, refl, ap, ◌∙◌, subst, arith}
+use Rattle.std.specs.Prelude.{◌↔◌}
 use Rattle.std.proofs.lemmas.Bool.Decides.{eqb_tells}
 use Rattle.std.proofs.lemmas.List.{length-set, get_or-set_same, get_or-set_other}
 use Rattle.vg_list.specs.NodeLists.{NodeLists, nodes_of, IsAt, IsLinked, inserted_before, without}
@@ -24,11 +24,11 @@ Has-from_inserted_before at node (x ∷ xs) n has =
     let rest = Has-from_inserted_before at node xs n in
     elim (eqb_tells x at) [
       | inl (test, _) ↦
-        let split : Has (node ∷ x ∷ ys) n = subst (λ (b : Bool). Has (cond b (node ∷ x ∷ ys) (x ∷ ys)) n) test has in
-        past_new node n (x ∷ ys) (x ∷ xs) (under_cons x node n ys xs rest) split
+          let split : Has (node ∷ x ∷ ys) n = subst (λ (b : Bool). Has (cond b (node ∷ x ∷ ys) (x ∷ ys)) n) test has in
+          past_new node n (x ∷ ys) (x ∷ xs) (under_cons x node n ys xs rest) split
       | inr (test, _) ↦
-        let split : Has (x ∷ ys) n = subst (λ (b : Bool). Has (cond b (node ∷ x ∷ ys) (x ∷ ys)) n) test has in
-        under_cons x node n ys xs rest split
+          let split : Has (x ∷ ys) n = subst (λ (b : Bool). Has (cond b (node ∷ x ∷ ys) (x ∷ ys)) n) test has in
+          under_cons x node n ys xs rest split
     ]
 
 kept_cons : (x node n : ℕ) (xs ys : List ℕ) → x ≢ node → (Has xs n → Has ys n × (n ≢ node)) → Has (x ∷ xs) n → Has (x ∷ ys) n × (n ≢ node)
@@ -45,8 +45,8 @@ Has-from_without node (x ∷ xs) n has =
     let rest = Has-from_without node xs n in
     elim (eqb_tells x node) [
       | inl (test, _) ↦
-        let found = rest (subst (λ (b : Bool). Has (cond b ys (x ∷ ys)) n) test has) in
-        ((suc found.0.0, found.0.1), found.1)
+          let found = rest (subst (λ (b : Bool). Has (cond b ys (x ∷ ys)) n) test has) in
+          ((suc found.0.0, found.0.1), found.1)
       | inr (test, differ) ↦ kept_cons x node n ys xs differ rest (subst (λ (b : Bool). Has (cond b ys (x ∷ ys)) n) test has)
     ]
 
@@ -75,8 +75,7 @@ module _ (all : NodeLists) (n : ℕ) where
   IsLinked-inserted_before at node linked =
       let f = inserted_before at node in
       let after = changed f all in
-      let same : (list : ℕ) → nodes_of after list ≡ f (nodes_of all list) = get_or-map_lists f refl all.lists in
-      (
+      let same : (list : ℕ) → nodes_of after list ≡ f (nodes_of all list) = get_or-map_lists f refl all.lists in (
         λ now. elim (Has-from_inserted_before at node (nodes_of all now.0) n (has_at after now.0 now.1 n (f (nodes_of all now.0)) (same now.0) now.2)) [
           | inl has ↦ inl (linked_at all now.0 n (nodes_of all now.0) refl has)
           | inr is ↦ inr is
@@ -84,8 +83,8 @@ module _ (all : NodeLists) (n : ℕ) where
         λ was. elim was [
           | inl before ↦ linked_at after before.0 n (f (nodes_of all before.0)) (same before.0) (Has-inserted_before at node (nodes_of all before.0) n (before.1, before.2))
           | inr is ↦
-            let has = Has-inserted_before_node at node (nodes_of all linked.0) (linked.1, linked.2) in
-            linked_at after linked.0 n (f (nodes_of all linked.0)) (same linked.0) (subst (λ (m : ℕ). Has (f (nodes_of all linked.0)) m) (sym is) has)
+              let has = Has-inserted_before_node at node (nodes_of all linked.0) (linked.1, linked.2) in
+              linked_at after linked.0 n (f (nodes_of all linked.0)) (same linked.0) (subst (λ (m : ℕ). Has (f (nodes_of all linked.0)) m) (sym is) has)
         ],
       )
 
@@ -94,11 +93,10 @@ module _ (all : NodeLists) (n : ℕ) where
   IsLinked-without node =
       let f = without node in
       let after = changed f all in
-      let same : (list : ℕ) → nodes_of after list ≡ f (nodes_of all list) = get_or-map_lists f refl all.lists in
-      (
+      let same : (list : ℕ) → nodes_of after list ≡ f (nodes_of all list) = get_or-map_lists f refl all.lists in (
         λ now.
-          let found = Has-from_without node (nodes_of all now.0) n (has_at after now.0 now.1 n (f (nodes_of all now.0)) (same now.0) now.2) in
-          (linked_at all now.0 n (nodes_of all now.0) refl found.0, found.1),
+            let found = Has-from_without node (nodes_of all now.0) n (has_at after now.0 now.1 n (f (nodes_of all now.0)) (same now.0) now.2) in
+            (linked_at all now.0 n (nodes_of all now.0) refl found.0, found.1),
         λ was. linked_at after was.0.0 n (f (nodes_of all was.0.0)) (same was.0.0) (Has-without node (nodes_of all was.0.0) n was.1 (was.0.1, was.0.2)),
       )
 
@@ -109,8 +107,7 @@ module _ (all : NodeLists) (n : ℕ) where
       let ys = xs ++ node ∷ [] in
       let after = with_list all list ys in
       let here : nodes_of after list ≡ ys = get_or-set_same all.lists list ys [] below in
-      let there : (other : ℕ) → other ≢ list → nodes_of after other ≡ nodes_of all other = λ other differ. get_or-set_other all.lists list other ys [] differ in
-      (
+      let there : (other : ℕ) → other ≢ list → nodes_of after other ≡ nodes_of all other = λ other differ. get_or-set_other all.lists list other ys [] differ in (
         λ now. elim (eqb_tells now.0 list) [
           | inl (_, is) ↦ elim (Has-from_append xs (node ∷ []) n (has_at after list now.1 n ys here (subst (λ (l : ℕ). IsAt after l now.1 n) is now.2))) [
             | inl has ↦ inl (linked_at all list n xs refl has)
@@ -137,9 +134,8 @@ module _ (all : NodeLists) (n : ℕ) where
       let at_source : nodes_of after source ≡ [] = get_or-set_same joined source [] [] (omega (arith, length-set all.lists target (xs ++ ys))) in
       let at_target : nodes_of after target ≡ xs ++ ys = get_or-set_other joined source target [] [] (λ is. differ (sym is)) ∙ get_or-set_same all.lists target (xs ++ ys) [] target_in in
       let at_other : (l : ℕ) → l ≢ source → l ≢ target → nodes_of after l ≡ nodes_of all l =
-        λ l not_source not_target. get_or-set_other joined source l [] [] not_source ∙ get_or-set_other all.lists target l (xs ++ ys) [] not_target
-      in
-      (
+      λ l not_source not_target. get_or-set_other joined source l [] [] not_source ∙ get_or-set_other all.lists target l (xs ++ ys) [] not_target
+      in (
         λ now. elim (eqb_tells now.0 source) [
           | inl (_, is) ↦ absurd (nothing_in_nil n (has_at after source now.1 n [] at_source (subst (λ (l : ℕ). IsAt after l now.1 n) is now.2)))
           | inr (_, not_source) ↦ elim (eqb_tells now.0 target) [
@@ -162,8 +158,7 @@ module _ (all : NodeLists) (n : ℕ) where
   -- after `grow`
   pub IsLinked-grown : (more_nodes more_lists : ℕ) → IsLinked (grown all more_nodes more_lists) n ↔ IsLinked all n
   IsLinked-grown more_nodes more_lists =
-      let same = nodes_of-grown all more_nodes more_lists in
-      (
+      let same = nodes_of-grown all more_nodes more_lists in (
         λ now. linked_at all now.0 n (nodes_of all now.0) refl (has_at (grown all more_nodes more_lists) now.0 now.1 n (nodes_of all now.0) (same now.0) now.2),
         λ was. linked_at (grown all more_nodes more_lists) was.0 n (nodes_of all was.0) (same was.0) (was.1, was.2),
       )

@@ -1,5 +1,5 @@
 -- What the links of an arena say of the lists that they make.
-use Rattle.std.proofs.Common.{◌≡◌, ◌≢◌, ℕ, zero, suc, ◌+◌, ◌<◌, ◌≤◌, ◌⊎◌, inl, inr, List, [], ◌∷◌, ◌++◌, length, map, get_or, Option, Some, None, sym, refl, ap, ◌∙◌, subst, arith}
+use Rattle.std.proofs.Common.{◌≡◌, ◌≢◌, ℕ, suc, ◌<◌, ◌≤◌, ◌⊎◌, inl, inr, List, [], length, map, Some, None, sym, refl, ap, ◌∙◌, subst, arith}
 use Rattle.std.specs.Prelude.{slice_get}
 use Rattle.std.specs.List.{range_with_len}
 use Rattle.std.proofs.lemmas.Bool.{cases_lt}
@@ -9,7 +9,7 @@ use Rattle.vg_list.specs.declared.link.Link.{Link}
 use Rattle.vg_list.specs.declared.link.Link.TheVariants.{Node, Sentinel, Unlinked}
 use Rattle.vg_list.specs.declared.arena.Arena.{Arena}
 use Rattle.vg_list.specs.Link.{node_of}
-use Rattle.vg_list.specs.NodeLists.{NodeLists, nodes_of, IsAt, IsLinked, IsDisjoint}
+use Rattle.vg_list.specs.NodeLists.{NodeLists, nodes_of, IsAt, IsDisjoint}
 use Rattle.vg_list.specs.Arena.{next_link, prev_link, no_links, IsInRange, IsChain, nodes_from, lists_of, Represents, IsSound, SameCounts}
 use Rattle.vg_list.proofs.Chains.{nodes_from-IsChain, leads_from_place, node_unlinked, sentinel_unlinked, one_place, node_of-next, node_of-first, nil_from_first, next-prev, prev-next, next-prev_end, prev-next_first}
 use Rattle.vg_list.proofs.Places.{length-le_from_places}

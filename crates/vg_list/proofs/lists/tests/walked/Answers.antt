@@ -1,4 +1,4 @@
-use Rattle.vg_list.proofs.Walks.{IsWalk_goes_on, IsWalk_ends, IsLinked_from_IsWalk, IsAt_from_IsWalk, AllPairs-nodes_of}
+use Rattle.vg_list.proofs.Walks.{IsWalk_goes_on, IsWalk_ends, IsAt_from_IsWalk, AllPairs-nodes_of}
 use Rattle.vg_list.proofs.lists.tests.walked.Goals as goal
 
 pub loop-current-preserved : goal.loop-current-preserved

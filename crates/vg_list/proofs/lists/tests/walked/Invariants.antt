@@ -1,4 +1,4 @@
-use Rattle.std.proofs.Common.{◌-◌, length, vec_len}
+use Rattle.std.proofs.Common.{◌-◌, length}
 use Rattle.vg_list.specs.NodeLists.{nodes_of}
 use Rattle.vg_list.specs.Walk.{IsWalk}
 use Rattle.vg_list.proofs.lists.tests.walked.Given as goal
