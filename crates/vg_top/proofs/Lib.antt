@@ -6,3 +6,4 @@ pub mod Digits
 pub mod RegisterLines
 pub mod NoMemory
 pub mod RunReport
+pub mod Reporting

@@ -13,7 +13,6 @@ use vg_io::Files;
 use vg_isa::Isa;
 
 ghost use Rattle.std.specs.Prelude.{◌≡◌, ◌≤◌, ◌<◌, [], ◌∷◌, IfOk, IfSome, IsErrOf, IsTrue, Some, length, map, min};
-ghost use Rattle.std.specs.Option.{option_map};
 ghost use Rattle.vg_io.specs.Count.{Rose};
 ghost use Rattle.vg_iss.specs.Kept.{is_memory_free};
 ghost use Rattle.vg_top.specs.Answering.{AnswersLoads, AsksNames, IsOfFiles, IsWhole, names_of};
@@ -115,24 +114,24 @@ fn run_command<F: Files>(
     }
 }
 
-/// The answer to a command; None stands for words in no form.
-pub(crate) fn command_answer<F: Files>(alloc: Global, files: &mut F, command: Option<Command<'_>>) -> Result<Answer, Fault>
-    ensures told { AnswersLoads (F.held files.old) (F.asked files.old) (F.asked files.new) result (λ held. CommandAnswers held (option_map asked_of command.entry)) }
+/// The answer to a command.
+pub(crate) fn command_answer<F: Files>(alloc: Global, files: &mut F, command: Command<'_>) -> Result<Answer, Fault>
+    ensures told { AnswersLoads (F.held files.old) (F.asked files.old) (F.asked files.new) result (λ held. CommandAnswers held (asked_of command.entry)) }
     ensures read { IsErrOf result Fault.Read → Rose (F.faults files.old) (F.faults files.new) }
     ensures kept_faults { F.faults files.old ≤ F.faults files.new }
-    ensures asked { AsksNames (min 1 (length (names_of (option_map asked_of command.entry)))) (names_of (option_map asked_of command.entry)) (F.asked files.old) (F.asked files.new) result }
-    ensures whole { IfOk result (λ answer. IsWhole (option_map asked_of command.entry) answer.status) }
+    ensures asked { AsksNames (min 1 (length (names_of (asked_of command.entry)))) (names_of (asked_of command.entry)) (F.asked files.old) (F.asked files.new) result }
+    ensures whole { IfOk result (λ answer. IsWhole (asked_of command.entry) answer.status) }
     ensures same { F.held files.new ≡ F.held files.old }
 {
     match command {
-        None => Ok(Answer {
+        Command::NoForm => Ok(Answer {
             status: Status::Usage,
             text: usage_line(alloc)?,
         }),
-        Some(Command::Run {
+        Command::Run {
             description,
             image,
             bound,
-        }) => run_command(alloc, files, description, image, bound),
+        } => run_command(alloc, files, description, image, bound),
     }
 }

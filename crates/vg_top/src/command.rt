@@ -1,5 +1,7 @@
 /// What the words of a command line ask for.
 pub(crate) enum Command<'a> {
+    /// The words are in no form.
+    NoForm,
     /// Runs an image for at most `bound` instructions.
     Run {
         description: &'a str,

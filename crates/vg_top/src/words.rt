@@ -2,7 +2,6 @@ use crate::command::Command;
 use vg_text::number::decimal_of;
 
 ghost use Rattle.std.specs.Prelude.{◌≡◌, ◌≤◌, List, map, length, string_bytes};
-ghost use Rattle.std.specs.Option.{option_map};
 ghost use Rattle.vg_top.specs.Command as command;
 ghost use Rattle.vg_top.specs.Words.{word_bytes, asked_of};
 
@@ -17,22 +16,24 @@ fn number_up_to(most: u64, word: &str) -> Option<u64>
     if n <= most { Some(n) } else { None }
 }
 
-/// The command of a list of words; None where they are in no form.
-pub(crate) fn command_of(words: &[String]) -> Option<Command<'_>>
-    ensures { option_map asked_of result ≡ command.command_of (map word_bytes words.now) }
+/// The command of a list of words.
+pub(crate) fn command_of(words: &[String]) -> Command<'_>
+    ensures { asked_of result ≡ command.command_of (map word_bytes words.now) }
 {
     match words {
         [name, description, image, bound] => {
             if name.as_str() != "run" {
-                return None;
+                return Command::NoForm;
             }
-            let bound = number_up_to(MOST_STEPS, bound.as_str())?;
-            Some(Command::Run {
-                description: description.as_str(),
-                image: image.as_str(),
-                bound,
-            })
+            match number_up_to(MOST_STEPS, bound.as_str()) {
+                None => Command::NoForm,
+                Some(bound) => Command::Run {
+                    description: description.as_str(),
+                    image: image.as_str(),
+                    bound,
+                },
+            }
         }
-        _ => None,
+        _ => Command::NoForm,
     }
 }

@@ -1,7 +1,11 @@
 use Rattle.std.proofs.Common.{◌≡◌, ℕ, List, [], Some, IfSome, inr, refl}
 use Rattle.vg_top.specs.Answers.{Held, Answer, DescriptionAnswers}
 use Rattle.vg_top.proofs.Files.{ends_here}
+use Rattle.vg_top.proofs.FormWrites.{is_memory_free-described}
 use Rattle.vg_top.proofs.answering.description_answer.Goals as goal
+
+pub image_answer-requires : goal.image_answer-requires
+image_answer-requires g c = is_memory_free-described c.args.text.now c.in-Some.isa (rw c.in-Some.is at c.in_ok-description_of.ensures)
 
 pub returns-in_ok-not_built-in-None-clause-told : goal.returns-in_ok-not_built-in-None-clause-told
 returns-in_ok-not_built-in-None-clause-told g c =
