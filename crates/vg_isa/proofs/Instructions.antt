@@ -1,10 +1,9 @@
 -- What a checked description tells of its instructions.
-use Rattle.std.proofs.Common.{◌≡◌, ℕ, ◌&&◌, IsTrue, slice_get, Some, Option}
+use Rattle.std.proofs.Common.{◌≡◌, ℕ, IsTrue, slice_get, Some}
 use Rattle.vg_isa.specs.declared.isa.Parts.{Parts}
 use Rattle.vg_isa.specs.declared.instr.Instr.{Instr}
 use Rattle.vg_isa.specs.declared.instr.Write.{Write}
-use Rattle.vg_isa.specs.declared.expr.Expr.{Expr}
-use Rattle.vg_isa.specs.Typing.{is_isa, is_instr, is_write, is_typed, has_width}
+use Rattle.vg_isa.specs.Typing.{is_isa, is_instr, is_write}
 use Rattle.vg_isa.proofs.Tests.{both, list_all-slice_get}
 
 -- an instruction of a checked description is checked

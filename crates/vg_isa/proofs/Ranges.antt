@@ -1,5 +1,5 @@
 -- Joining the bits of ranges one by one.
-use Rattle.std.proofs.Common.{◌≡◌, ℕ, ◌+◌, ◌*◌, ◌-◌, ◌/◌, ◌%◌, ◌^◌, List, ◌∷◌, arith, sym, ap, ◌∙◌, subst}
+use Rattle.std.proofs.Common.{◌≡◌, ℕ, ◌+◌, ◌*◌, ◌-◌, ◌/◌, ◌%◌, ◌^◌, List, ◌∷◌, arith, ap, ◌∙◌}
 use Rattle.vg_bits.specs.BitValue.{BitValue}
 use Rattle.vg_bits.specs.BitValue as bits
 use Rattle.vg_isa.specs.Declaration.{bits_of, bits_in}

@@ -1,10 +1,10 @@
 -- What the tests of a register's declaration tell.
-use Rattle.std.proofs.Common.{◌≡◌, ℕ, zero, suc, ◌+◌, ◌<◌, ◌≤◌, ◌^◌, Bool, true, false, ◌&&◌, List, [], ◌∷◌, length, IsTrue, nat_lt, nat_le, nat_eq, slice_get, Some, None, Option, arith, refl, ap}
+use Rattle.std.proofs.Common.{◌≡◌, ℕ, zero, suc, ◌<◌, ◌≤◌, ◌^◌, true, false, List, [], ◌∷◌, length, IsTrue, nat_le, nat_eq, Some, None, Option, arith}
 use Rattle.std.specs.Option.{option_map_or}
 use Rattle.std.specs.List.{list_all}
 use Rattle.std.proofs.lemmas.Bool.Decides.{nat_tests}
 use Rattle.vg_isa.specs.declared.declaration.RegDecl.{RegDecl}
-use Rattle.vg_isa.specs.Declaration.{is_file, is_single, register_count}
+use Rattle.vg_isa.specs.Declaration.{is_file, is_single}
 use Rattle.vg_isa.specs.Typing.{is_register_decl, is_isa}
 use Rattle.vg_isa.specs.declared.isa.Parts.{Parts}
 use Rattle.std.proofs.Math.Nat.{pow-le-pow_right}
@@ -32,6 +32,9 @@ file_index [] r w all h = cc
 file_index (decl ∷ regs) zero w all h = index_small decl.index w h (both _ _ (both _ _ all).0).0
 file_index (decl ∷ regs) (suc r) w all h = file_index regs r w (both _ _ all).1 h
 
+below_sixty_four : (m n : ℕ) → n < m → m ≤ 2 ^ 6 → n < 64
+below_sixty_four m n b h = omega arith
+
 two_positive : 0 < 2
 two_positive = omega arith
 
@@ -40,4 +43,4 @@ pub index_below : (d : Parts) (r w n : ℕ) → IsTrue (is_isa d) → IsTrue (is
 index_below d r w n h f b =
     let small : w ≤ 6 = file_index d.regs r w (both _ _ (both _ _ (both _ _ h).0).0).1 f in
     let most : 2 ^ w ≤ 2 ^ 6 = pow-le-pow_right two_positive small in
-    omega arith
+    below_sixty_four (2 ^ w) n b most

@@ -1,5 +1,5 @@
 -- What tests of lists and of two things at once tell.
-use Rattle.std.proofs.Common.{◌≡◌, ℕ, zero, suc, Bool, true, false, ◌&&◌, List, [], ◌∷◌, slice_get, Some, None, refl, subst, ap}
+use Rattle.std.proofs.Common.{◌≡◌, ℕ, zero, suc, Bool, true, false, ◌&&◌, List, [], ◌∷◌, slice_get, Some, refl, subst}
 use Rattle.std.specs.List.{list_all}
 
 -- both parts of a test hold

@@ -1,6 +1,6 @@
 -- What an instruction does: the writes that it makes, and the program counter after it. All reads see the
 -- state before the instruction.
-use Rattle.std.specs.Prelude.{ℕ, ◌/◌, Bool, true, false, List, map, Option, Some, None, slice_get, if◌then◌else◌}
+use Rattle.std.specs.Prelude.{ℕ, ◌/◌, List, Option, Some, None, slice_get, if◌then◌else◌}
 use Rattle.std.specs.Option.{option_and_then, option_map, option_map_or}
 use Rattle.std.specs.List.{filter_map}
 use Rattle.vg_bits.specs.BitValue.{BitValue}

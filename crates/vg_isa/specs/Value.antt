@@ -1,5 +1,5 @@
 -- The value of a tree for an instruction word, in a state.
-use Rattle.std.specs.Prelude.{◌≡◌, ℕ, zero, suc, ◌+◌, ◌*◌, ◌-◌, ◌%◌, ◌^◌, ◌<◌, Bool, true, false, nat_eq, List, length, Option, Some, None, if◌then◌else◌}
+use Rattle.std.specs.Prelude.{◌≡◌, ℕ, zero, suc, ◌+◌, ◌*◌, ◌%◌, ◌^◌, ◌<◌, Bool, nat_eq, length, Some, None, if◌then◌else◌}
 use Rattle.vg_bits.specs.BitValue.{BitValue}
 use Rattle.vg_bits.specs.BitValue as bits
 use Rattle.vg_isa.specs.declared.isa.Parts.{Parts}

@@ -1,12 +1,10 @@
 -- How an answer goes on with a file that was loaded.
-use Rattle.std.proofs.Common.{◌≡◌, ℕ, ◌<◌, ◌≤◌, List, [], ◌∷◌, ◌++◌, length, nat_lt, true, false, Bool, Option, Some, None, IfSome, IfOk, Result, Vec, refl, sym, subst, ap, ◌∙◌, append_assoc, arith}
-use Rattle.std.specs.Bool.{MatchBool}
+use Rattle.std.proofs.Common.{◌≡◌, ℕ, ◌≤◌, List, [], ◌∷◌, ◌++◌, length, nat_lt, false, Option, Some, None, IfSome, Result, Vec, refl, sym, subst, ap, ◌∙◌, append_assoc, arith}
 use Rattle.std.specs.declared.alloc.Global.{Global}
 use Rattle.std.proofs.lemmas.Bool.Decides.{nat_tests}
 use Rattle.std.proofs.lemmas.List.{append-nil}
 use Rattle.vg_top.specs.declared.status.Status.{Status}
-use Rattle.vg_top.specs.Answers.{Held, Answer, WithFile, Refuses}
-use Rattle.vg_top.specs.Refusal.{too_long}
+use Rattle.vg_top.specs.Answers.{Held, Answer, WithFile}
 use Rattle.vg_top.specs.Loading.{IsWithin}
 use Rattle.vg_top.specs.Answering.{AnswersLoads}
 use Rattle.vg_top.specs.declared.answer.Answer as answer
@@ -36,8 +34,8 @@ ends_here (Some held) now next status text h = ([], sym (append-nil now), h held
 pub hands_on : (told later : Option Held) (name : List ℕ) (limit : ℕ) (before middle now : List (List ℕ)) (loaded : Vec ℕ Global) (bytes : List ℕ) (next : Held → List ℕ → Answer) (result : Result answer.Answer Fault) → later ≡ told → bytes ≡ loaded.items → IfSome told (λ held. IsWithin (held name) limit (Some loaded)) → middle ≡ before ++ name ∷ [] → AnswersLoads later middle now result (λ held. next held bytes) → AnswersLoads told before now result (λ held. WithFile name limit (held name) (next held))
 hands_on told later name limit before middle now loaded bytes next result same is within asked h =
     IfOk-weaker result _ _
-      (λ (a : answer.Answer) (k : IfSome later (λ held. (more : List (List ℕ)) × (now ≡ middle ++ more) × next held bytes more a.status a.text.items)).
-        goes_on told name limit before middle now loaded next a.status a.text.items within asked
-          (subst (λ (t : Option Held). IfSome t (λ held. (more : List (List ℕ)) × (now ≡ middle ++ more) × next held loaded.items more a.status a.text.items)) same
-            (subst (λ (b : List ℕ). IfSome later (λ held. (more : List (List ℕ)) × (now ≡ middle ++ more) × next held b more a.status a.text.items)) is k)))
-      h
+    (λ (a : answer.Answer) (k : IfSome later (λ held. (more : List (List ℕ)) × (now ≡ middle ++ more) × next held bytes more a.status a.text.items)).
+    goes_on told name limit before middle now loaded next a.status a.text.items within asked
+    (subst (λ (t : Option Held). IfSome t (λ held. (more : List (List ℕ)) × (now ≡ middle ++ more) × next held loaded.items more a.status a.text.items)) same
+    (subst (λ (b : List ℕ). IfSome later (λ held. (more : List (List ℕ)) × (now ≡ middle ++ more) × next held b more a.status a.text.items)) is k)))
+    h

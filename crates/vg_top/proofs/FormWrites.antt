@@ -1,14 +1,11 @@
 -- The instructions of a form write registers only.
-use Rattle.std.proofs.Common.{ℕ, Bool, true, false, IsTrue, List, [], ◌∷◌, map, refl}
+use Rattle.std.proofs.Common.{ℕ, IsTrue, List, [], ◌∷◌, map, refl}
 use Rattle.std.specs.List.{list_all}
 use Rattle.vg_isa.specs.declared.isa.Parts.{Parts}
 use Rattle.vg_isa.specs.declared.instr.Instr.{Instr}
-use Rattle.vg_isa.specs.declared.instr.Write.{Write}
-use Rattle.vg_isa.specs.declared.ids.ResourceId.{ResourceId}
-use Rattle.vg_isa.specs.declared.ids.ResourceId.TheVariants.{Memory, Reg}
 use Rattle.vg_top.specs.declared.form.Form.{Form}
 use Rattle.vg_top.specs.declared.form.Pair.{Pair}
-use Rattle.vg_iss.specs.Kept.{is_memory_free, is_register, write_registers}
+use Rattle.vg_iss.specs.Kept.{is_memory_free, write_registers}
 use Rattle.vg_top.specs.Form.{instr_of, parts_of}
 use Rattle.vg_top.specs.Description.{IsDescription}
 

@@ -76,9 +76,9 @@ Writes wanted text result before now =
 abbrev pub IsAnswered : Option Held → List (List ℕ) → List (List ℕ) → List (List ℕ) → Option (List ℕ) → Option (List ℕ) → Status → Type 0
 IsAnswered told words before_asked now_asked before now result =
     IfSome told (λ held.
-      ((asked : List (List ℕ)) × (wanted : Status) × (text : List ℕ)
-        × Answers held words asked wanted text × (now_asked ≡ before_asked ++ asked) × Writes wanted text result before now)
-      ⊎ (IsUnanswered result × (now ≡ before)))
+    ((asked : List (List ℕ)) × (wanted : Status) × (text : List ℕ)
+    × Answers held words asked wanted text × (now_asked ≡ before_asked ++ asked) × Writes wanted text result before now)
+    ⊎ (IsUnanswered result × (now ≡ before)))
 
 -- how many of the names of the words are asked for under a status
 abbrev pub AsksUnder : ℕ → ℕ → Status → Type 0

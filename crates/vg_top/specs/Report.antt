@@ -1,5 +1,5 @@
 -- The report of a run: how it stands, and then the state.
-use Rattle.std.specs.Prelude.{ℕ, ◌+◌, ◌-◌, ◌*◌, ◌/◌, ◌%◌, ◌^◌, ◌∷◌, ◌++◌, Bool, true, false, ◌&&◌, nat_eq, nat_lt, nat_le, List, [], map, flat_map, length, codes, decimal, Option, Some, None, if◌then◌else◌}
+use Rattle.std.specs.Prelude.{ℕ, ◌+◌, ◌*◌, ◌/◌, ◌^◌, ◌∷◌, ◌++◌, Bool, ◌&&◌, nat_eq, nat_lt, nat_le, List, [], map, flat_map, length, codes, decimal, Option, Some, None, if◌then◌else◌}
 use Rattle.std.specs.List.{list_all, range_with_len}
 use Rattle.std.specs.FinMap.{empty}
 use Rattle.vg_text.specs.Number.{hexadecimal}

@@ -1,3 +1,10 @@
+ghost use Rattle.std.specs.Prelude.{◌≡◌, ◌≤◌, ◌<◌, [], ◌∷◌, IfOk, IfSome, IsErrOf, IsTrue, Some, length, map, min};
+ghost use Rattle.vg_io.specs.Count.{Rose};
+ghost use Rattle.vg_iss.specs.Kept.{is_memory_free};
+ghost use Rattle.vg_top.specs.Answering.{AnswersLoads, AsksNames, IsOfFiles, IsWhole, names_of};
+ghost use Rattle.vg_top.specs.Answers.{Answers, CommandAnswers, ImageAnswers, ImageTextAnswers, DescriptionAnswers, RunAnswers, Reports};
+ghost use Rattle.vg_top.specs.Words.{word_bytes, asked_of};
+
 use crate::answer::Answer;
 use crate::command::Command;
 use crate::description::description_of;
@@ -12,13 +19,6 @@ use vg_image::{ImageFault, read};
 use vg_io::Files;
 use vg_isa::Isa;
 
-ghost use Rattle.std.specs.Prelude.{◌≡◌, ◌≤◌, ◌<◌, [], ◌∷◌, IfOk, IfSome, IsErrOf, IsTrue, Some, length, map, min};
-ghost use Rattle.vg_io.specs.Count.{Rose};
-ghost use Rattle.vg_iss.specs.Kept.{is_memory_free};
-ghost use Rattle.vg_top.specs.Answering.{AnswersLoads, AsksNames, IsOfFiles, IsWhole, names_of};
-ghost use Rattle.vg_top.specs.Answers.{Answers, CommandAnswers, ImageAnswers, ImageTextAnswers, DescriptionAnswers, RunAnswers, Reports};
-ghost use Rattle.vg_top.specs.Words.{word_bytes, asked_of};
-
 /// A description has at most so many bytes.
 const DESCRIPTION_LIMIT: usize = 1 << 20;
 
@@ -26,7 +26,12 @@ const DESCRIPTION_LIMIT: usize = 1 << 20;
 const IMAGE_LIMIT: usize = 8 << 20;
 
 /// The answer of `run` to the text of an image.
-fn image_text_answer(alloc: Global, isa: &Isa, text: &[u8], bound: u64) -> Result<Answer, AllocError>
+fn image_text_answer(
+    alloc: Global,
+    isa: &Isa,
+    text: &[u8],
+    bound: u64,
+) -> Result<Answer, AllocError>
     requires { IsTrue (is_memory_free isa.now) }
     ensures right { IfOk result (λ answer. ImageTextAnswers isa.now bound text.now [] answer.status answer.text.items) }
     ensures whole { IfOk result (λ answer. IsOfFiles answer.status) }
@@ -115,7 +120,11 @@ fn run_command<F: Files>(
 }
 
 /// The answer to a command.
-pub(crate) fn command_answer<F: Files>(alloc: Global, files: &mut F, command: Command<'_>) -> Result<Answer, Fault>
+pub(crate) fn command_answer<F: Files>(
+    alloc: Global,
+    files: &mut F,
+    command: Command<'_>,
+) -> Result<Answer, Fault>
     ensures told { AnswersLoads (F.held files.old) (F.asked files.old) (F.asked files.new) result (λ held. CommandAnswers held (asked_of command.entry)) }
     ensures read { IsErrOf result Fault.Read → Rose (F.faults files.old) (F.faults files.new) }
     ensures kept_faults { F.faults files.old ≤ F.faults files.new }

@@ -1,10 +1,10 @@
-use crate::fault::Fault;
-use std::alloc::Global;
-use vg_io::{Files, LoadFault};
-
 ghost use Rattle.std.specs.Prelude.{◌≡◌, ◌≤◌, ◌<◌, ◌+◌, ◌^◌, IfOk, IfSome, IsErrOf, length};
 ghost use Rattle.vg_io.specs.Count.{Rose};
 ghost use Rattle.vg_top.specs.Loading.{IsWithin, AsksFor};
+
+use crate::fault::Fault;
+use std::alloc::Global;
+use vg_io::{Files, LoadFault};
 
 /// Loads a file of at most `limit` bytes; None where it has more.
 pub(crate) fn load_within<F: Files>(

@@ -1,3 +1,10 @@
+ghost use Rattle.std.specs.Prelude.{◌≡◌, ◌≤◌, ◌⊎◌, ℕ, None, map};
+ghost use Rattle.vg_io.specs.Count.{Rose};
+ghost use Rattle.vg_io.specs.Sink.{append_known};
+ghost use Rattle.vg_top.specs.Answering.{AsksForNames, IsAnswered, IsFinal, Writes, names_of};
+ghost use Rattle.vg_top.specs.Command as command;
+ghost use Rattle.vg_top.specs.Words.{word_bytes};
+
 use crate::answer::Answer;
 use crate::answering::command_answer;
 use crate::fault::Fault;
@@ -5,13 +12,6 @@ use crate::status::Status;
 use crate::words::command_of;
 use std::alloc::Global;
 use vg_io::{Files, PutAllFault, Sink, put_all};
-
-ghost use Rattle.std.specs.Prelude.{◌≡◌, ◌≤◌, ◌⊎◌, ℕ, None, map};
-ghost use Rattle.vg_io.specs.Count.{Rose};
-ghost use Rattle.vg_io.specs.Sink.{append_known};
-ghost use Rattle.vg_top.specs.Answering.{AsksForNames, IsAnswered, IsFinal, Writes, names_of};
-ghost use Rattle.vg_top.specs.Command as command;
-ghost use Rattle.vg_top.specs.Words.{word_bytes};
 
 /// Writes an answer, and gives its status, or why it was cut short.
 fn write_answer<K: Sink>(out: &mut K, answer: &Answer) -> Status

@@ -1,15 +1,15 @@
+ghost use Rattle.std.specs.Prelude.{◌≡◌, IfOk, IsTrue, []};
+ghost use Rattle.vg_image.specs.Spelling.{IsImage};
+ghost use Rattle.vg_iss.specs.Kept.{is_memory_free};
+ghost use Rattle.vg_top.specs.Answering.{IsOfFiles};
+ghost use Rattle.vg_top.specs.Answers.{Reports};
+
 use crate::answer::Answer;
 use crate::report::{push_run_report, run_status};
 use std::alloc::{AllocError, Global};
 use vg_image::Image;
 use vg_isa::Isa;
 use vg_iss::Iss;
-
-ghost use Rattle.std.specs.Prelude.{◌≡◌, IfOk, IsTrue, []};
-ghost use Rattle.vg_image.specs.Spelling.{IsImage};
-ghost use Rattle.vg_iss.specs.Kept.{is_memory_free};
-ghost use Rattle.vg_top.specs.Answering.{IsOfFiles};
-ghost use Rattle.vg_top.specs.Answers.{Reports};
 
 /// The report of the run of an image for at most `bound` steps.
 pub(crate) fn run_answer(

@@ -1,9 +1,9 @@
-use crate::command::Command;
-use vg_text::number::decimal_of;
-
 ghost use Rattle.std.specs.Prelude.{◌≡◌, ◌≤◌, List, map, length, string_bytes};
 ghost use Rattle.vg_top.specs.Command as command;
 ghost use Rattle.vg_top.specs.Words.{word_bytes, asked_of};
+
+use crate::command::Command;
+use vg_text::number::decimal_of;
 
 /// At most so many steps or cycles are asked for.
 const MOST_STEPS: u64 = 1_000_000_000;

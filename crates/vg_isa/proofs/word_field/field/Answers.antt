@@ -1,7 +1,7 @@
-use Rattle.std.proofs.Common.{◌≡◌, ◌≤◌, slice_get, Some, IsTrue, arith, subst, sym, ap, ◌∙◌}
+use Rattle.std.proofs.Common.{◌≡◌, ◌≤◌, slice_get, Some, IsTrue, arith, sym, ap, ◌∙◌}
 use Rattle.std.specs.Option.{option_copied}
 use Rattle.vg_isa.specs.declared.isa.Parts.{Parts}
-use Rattle.vg_isa.specs.Declaration.{are_ranges, are_in_word, bits_of}
+use Rattle.vg_isa.specs.Declaration.{are_ranges, bits_of}
 use Rattle.vg_isa.proofs.Fields.{field_in_word, word_most, ranges_fit, ranges_in_word}
 use Rattle.vg_isa.proofs.word_field.field.Goals as goal
 

@@ -1,6 +1,6 @@
-use Rattle.std.proofs.Common.{◌≡◌, ◌+◌, ℕ, ◌∷◌, drop, get_or, subst, sym, ◌∙◌, add-one, drop-cons, ap}
+use Rattle.std.proofs.Common.{◌≡◌, ◌+◌, ◌∷◌, drop, get_or, ◌∙◌, add-one, drop-cons, ap}
 use Rattle.vg_bits.specs.BitValue as bits
-use Rattle.vg_isa.proofs.Ranges.{IsJoined, join_more}
+use Rattle.vg_isa.proofs.Ranges.{join_more}
 use Rattle.vg_isa.proofs.word_field.join_ranges.Goals as goal
 
 pub loop-high-preserved : goal.loop-high-preserved

@@ -1,4 +1,4 @@
-use Rattle.std.proofs.Common.{◌≡◌, ℕ, List, [], ◌∷◌, ◌++◌, Some, IfSome, subst, refl, arith}
+use Rattle.std.proofs.Common.{ℕ, List, [], subst, refl, arith}
 use Rattle.vg_top.specs.Answers.{Held, Answer, ImageTextAnswers}
 use Rattle.vg_top.proofs.Files.{goes_on, ends_here}
 use Rattle.vg_top.proofs.answering.image_answer.Goals as goal
@@ -10,10 +10,10 @@ returns-in_ok-image_text_answer-in-Some-clause-told g c =
     let answer = c.in_ok-image_text_answer-in-Some.field-0 in
     let next : Held → List ℕ → Answer = λ held. ImageTextAnswers c.args.isa.now c.args.bound in
     goes_on told c.args.image.now 8388608 _ _ _ c.in-Some.text next answer.status answer.text.items
-      (rw c.in-Some.is at c.in_ok-load_within.ensures.told)
-      c.in_ok-load_within.ensures.asked
-      (ends_here told _ (λ held. next held c.in-Some.text.items) answer.status answer.text.items 
-        (λ held. subst (λ (b : List ℕ). next held b [] answer.status answer.text.items) c.as_slice.ensures.value c.in_ok-image_text_answer-in-Some.ensures.right))
+    (rw c.in-Some.is at c.in_ok-load_within.ensures.told)
+    c.in_ok-load_within.ensures.asked
+    (ends_here told _ (λ held. next held c.in-Some.text.items) answer.status answer.text.items
+    (λ held. subst (λ (b : List ℕ). next held b [] answer.status answer.text.items) c.as_slice.ensures.value c.in_ok-image_text_answer-in-Some.ensures.right))
 
 pub returns-in_ok-image_text_answer-in-Some-clause-asked :
     goal.returns-in_ok-image_text_answer-in-Some-clause-asked
