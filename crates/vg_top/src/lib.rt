@@ -14,6 +14,8 @@ mod refusal;
 mod report;
 mod running;
 mod status;
+#[cfg(test)]
+mod tests;
 mod words;
 
 pub use form::{Behaviour, Form, Pair};
