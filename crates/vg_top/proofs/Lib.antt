@@ -2,3 +2,4 @@ pub mod Files
 pub mod FormTyping
 pub mod FormWrites
 pub mod Writing
+pub mod Spelled

@@ -7,3 +7,4 @@ pub mod Report
 pub mod Words
 pub mod Loading
 pub mod Answering
+pub mod Reading
