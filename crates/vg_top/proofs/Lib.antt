@@ -3,3 +3,4 @@ pub mod FormTyping
 pub mod FormWrites
 pub mod Writing
 pub mod Spelled
+pub mod Described

@@ -17,7 +17,10 @@ use Rattle.vg_top.specs.declared.form.Behaviour.TheVariants.{AddRegisters, AddFi
 use Rattle.vg_top.specs.declared.reading.Piece.{Piece}
 use Rattle.vg_top.specs.declared.reading.Piece.TheVariants as piece
 use Rattle.vg_top.specs.Form.{fits_fields}
-use Rattle.vg_top.specs.Description.{register_tokens, operand_tokens, declarations, is_ascii, has_name, taken_names}
+use Rattle.std.specs.Prelude.{IsTrue}
+use Rattle.std.specs.List.{list_any}
+use Rattle.vg_text.specs.Piece.{lacks}
+use Rattle.vg_top.specs.Description.{register_tokens, operand_tokens, declarations, is_ascii, has_name, taken_names, form_tokens, is_binary, is_form}
 
 infixl 10 ◌>>=◌
 abbrev pub ◌>>=◌ : {A B : Type 0} → Option A → (A → Option B) → Option B
@@ -160,3 +163,11 @@ form_at ts = do
 -- what the conditions of a form say of one pair
 abbrev pub is_right : Pair → Bool
 is_right pair = is_ascii pair.name && not (has_name taken_names pair.name) && fits_fields pair
+
+-- the form that a text of these tokens has
+pub record IsFormOf (bytes : List ℕ) (tokens : List Token) (form : Form) : Type 0 where
+  pub kinds : map (λ (token : Token). token.kind) tokens ≡ form_tokens form
+  pub no_comment : IsTrue (lacks 47 bytes)
+  pub no_marks : IsTrue (lacks 39 bytes)
+  pub no_binary : list_any (is_binary bytes) tokens ≡ false
+  pub fits : IsTrue (is_form form)
