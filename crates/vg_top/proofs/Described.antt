@@ -1,6 +1,6 @@
 -- A text has a form where its tokens are read as one that meets the conditions.
-use Rattle.std.proofs.Common.{◌≡◌, ℕ, Bool, true, false, ◌&&◌, List, [], ◌∷◌, length, map, Option, Some, None, ap, sym, ◌∙◌, subst, refl}
-use Rattle.std.specs.Prelude.{IsTrue, nat_lt, nat_le, not, MatchOption}
+use Rattle.std.proofs.Common.{◌≡◌, ℕ, false, ◌&&◌, List, [], ◌∷◌, map, Option, Some, None, ap, sym, ◌∙◌, refl}
+use Rattle.std.specs.Prelude.{IsTrue, not, MatchOption}
 use Rattle.std.specs.List.{list_all, list_any}
 use Rattle.std.proofs.lemmas.Bool.{and_parts, and_from, both_ways}
 use Rattle.std.proofs.lemmas.Option.{none-some, same_Some}
@@ -9,7 +9,7 @@ use Rattle.vg_tok.specs.Lexing.{Lexes}
 use Rattle.vg_top.specs.declared.form.Form.{Form}
 use Rattle.vg_top.specs.declared.form.Pair.{Pair}
 use Rattle.vg_top.specs.Form.{fits_fields}
-use Rattle.vg_top.specs.Description.{IsForm, is_form, is_ascii, is_binary, has_name, taken_names, are_apart, are_distinct, form_tokens}
+use Rattle.vg_top.specs.Description.{IsForm, is_form, is_ascii, is_binary, has_name, taken_names, are_apart, are_distinct}
 use Rattle.vg_top.specs.Reading.{IsFormOf, form_at, kinds, is_right}
 use Rattle.vg_text.specs.Piece.{lacks}
 use Rattle.vg_top.proofs.Spelled.{form_takes, form_again}
@@ -36,12 +36,12 @@ pub form_with : (bytes : List ℕ) (tokens : List Token) → Lexes bytes tokens 
     → MatchOption found ((form : Form) → IsFormOf bytes tokens form → ⊥) (λ form. IsFormOf bytes tokens form)
     → MatchOption found ((form : Form) → IsForm bytes form → ⊥) (λ form. IsForm bytes form)
 form_with bytes tokens lexes only None none = λ form h. none form (record {
-    kinds = ap (map (λ (token : Token). token.kind)) (only h.tokens h.lexes) ∙ h.kinds;
-    no_comment = h.no_comment;
-    no_marks = h.no_marks;
-    no_binary = ap (list_any (is_binary bytes)) (only h.tokens h.lexes) ∙ h.no_binary;
-    fits = h.fits;
-  })
+  kinds = ap (map (λ (token : Token). token.kind)) (only h.tokens h.lexes) ∙ h.kinds;
+  no_comment = h.no_comment;
+  no_marks = h.no_marks;
+  no_binary = ap (list_any (is_binary bytes)) (only h.tokens h.lexes) ∙ h.no_binary;
+  fits = h.fits;
+})
 form_with bytes tokens lexes only (Some form) h =
     record { tokens = tokens; lexes = lexes; kinds = h.kinds; no_comment = h.no_comment; no_marks = h.no_marks; no_binary = h.no_binary; fits = h.fits }
 

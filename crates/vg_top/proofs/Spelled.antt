@@ -1,13 +1,12 @@
 -- What is read is spelled so, and what is spelled so is read.
-use Rattle.std.proofs.Common.{◌≡◌, ℕ, zero, suc, ◌+◌, ◌-◌, ◌<◌, ◌≤◌, Bool, true, false, ◌&&◌, not, List, [], ◌∷◌, ◌++◌, length, map, Option, Some, None, refl, ap, sym, ◌∙◌, subst, cond, ◌⊎◌, inl, inr, arith}
-use Rattle.std.specs.Prelude.{flat_map, nat_lt, nat_le, nat_eq, IsTrue, codes}
+use Rattle.std.proofs.Common.{◌≡◌, ℕ, zero, suc, ◌+◌, ◌<◌, ◌≤◌, Bool, true, false, ◌&&◌, not, List, [], ◌∷◌, ◌++◌, length, map, Option, Some, None, refl, ap, sym, ◌∙◌, subst, cond, ◌⊎◌, inl, inr, arith}
+use Rattle.std.specs.Prelude.{flat_map, nat_lt, nat_le, IsTrue}
 use Rattle.std.specs.List.{list_all}
-use Rattle.std.specs.Str.{bytes_eq}
 use Rattle.std.proofs.lemmas.Bool.{cond-true, false≢true, lt-ltb, ltb-true, leb-true, eqb-true, eq-eqb, and_parts}
 use Rattle.std.proofs.lemmas.Option.{none-some, same_Some, cond_some}
 use Rattle.std.proofs.lemmas.List.{append_assoc}
 use Rattle.std.proofs.lemmas.Slice.Eq.{bytes_eq-Decides}
-use denote.Enum.Bare.{sameb, same_true, true_same}
+use denote.Enum.Bare.{same_true, true_same}
 use Rattle.vg_tok.specs.contracts.sign.Sign as signs
 use Rattle.vg_tok.specs.contracts.word.Word as words
 use Rattle.vg_tok.specs.declared.token.Kind.{Kind}
@@ -135,10 +134,10 @@ instruction_takes ts x h =
     bind_elim (name_at a) _ x h1 (λ name hn h2.
     bind_elim (after to_operand name.1) _ x h2 (λ b hb h3.
     bind_elim (operand_at b) _ x h3 (λ o ho h4.
-      subst (λ (x : (List ℕ × Behaviour) × List Kind). ts ≡ instruction_then x.0.0 x.0.1 x.1) (same_Some _ _ h4)
-      (after_takes (kind.Word word.Instruction ∷ []) ts a ha ∙ ap (λ l. kind.Word word.Instruction ∷ l)
-        (name_takes a name hn ∙ ap (λ l. kind.Name name.0 ∷ l)
-        (after_takes to_operand name.1 b hb ∙ ap (λ l. to_operand ++ l) (operand_takes b o ho))))))))
+    subst (λ (x : (List ℕ × Behaviour) × List Kind). ts ≡ instruction_then x.0.0 x.0.1 x.1) (same_Some _ _ h4)
+    (after_takes (kind.Word word.Instruction ∷ []) ts a ha ∙ ap (λ l. kind.Word word.Instruction ∷ l)
+    (name_takes a name hn ∙ ap (λ l. kind.Name name.0 ∷ l)
+    (after_takes to_operand name.1 b hb ∙ ap (λ l. to_operand ++ l) (operand_takes b o ho))))))))
 
 instruction_again : (name : List ℕ) (b : Behaviour) (ts : List Kind) → IsTrue (is_ascii name) → instruction_at (instruction_then name b ts) ≡ Some ((name, b), ts)
 unfolding instruction_at
@@ -158,11 +157,11 @@ numbers_takes ts x h =
     bind_elim (after to_op f3.1) _ x h4 (λ c hc h5.
     bind_elim (number_at c) _ x h5 (λ op ho h6.
     bind_elim (after closing op.1) _ x h6 (λ rest hr h8.
-      subst (λ (x : (ℕ × ℕ × ℕ) × List Kind). ts ≡ numbers_then x.0.0 x.0.1 x.0.2 x.1) (same_Some _ _ h8)
-      (after_takes to_f7 ts a ha ∙ ap (λ l. to_f7 ++ l) (number_takes a f7 h7 ∙ ap (λ l. kind.Number f7.0 ∷ l)
-      (after_takes to_f3 f7.1 b hb ∙ ap (λ l. to_f3 ++ l) (number_takes b f3 hf ∙ ap (λ l. kind.Number f3.0 ∷ l)
-      (after_takes to_op f3.1 c hc ∙ ap (λ l. to_op ++ l) (number_takes c op ho ∙ ap (λ l. kind.Number op.0 ∷ l)
-      (after_takes closing op.1 rest hr))))))))))))))
+    subst (λ (x : (ℕ × ℕ × ℕ) × List Kind). ts ≡ numbers_then x.0.0 x.0.1 x.0.2 x.1) (same_Some _ _ h8)
+    (after_takes to_f7 ts a ha ∙ ap (λ l. to_f7 ++ l) (number_takes a f7 h7 ∙ ap (λ l. kind.Number f7.0 ∷ l)
+    (after_takes to_f3 f7.1 b hb ∙ ap (λ l. to_f3 ++ l) (number_takes b f3 hf ∙ ap (λ l. kind.Number f3.0 ∷ l)
+    (after_takes to_op f3.1 c hc ∙ ap (λ l. to_op ++ l) (number_takes c op ho ∙ ap (λ l. kind.Number op.0 ∷ l)
+    (after_takes closing op.1 rest hr))))))))))))))
 
 numbers_again : (f7 f3 op : ℕ) (ts : List Kind) → f7 < 256 → f3 < 256 → op < 256 → numbers_at (numbers_then f7 f3 op ts) ≡ Some ((f7, f3, op), ts)
 unfolding numbers_at
@@ -196,8 +195,8 @@ pair_takes ts x h =
     bind_elim (instruction_at ts) _ x h (λ i hi h1.
     bind_elim (after (encoding_of i.0.0) i.1) _ x h1 (λ a ha h2.
     bind_elim (numbers_at a) _ x h2 (λ n hn h3.
-      subst (λ (x : Pair × List Kind). ts ≡ pair_then x.0 x.1) (same_Some _ _ h3)
-      (instruction_takes ts i hi ∙ ap (instruction_then i.0.0 i.0.1) (after_takes (encoding_of i.0.0) i.1 a ha ∙ ap (λ l. encoding_of i.0.0 ++ l) (numbers_takes a n hn))))))
+    subst (λ (x : Pair × List Kind). ts ≡ pair_then x.0 x.1) (same_Some _ _ h3)
+    (instruction_takes ts i hi ∙ ap (instruction_then i.0.0 i.0.1) (after_takes (encoding_of i.0.0) i.1 a ha ∙ ap (λ l. encoding_of i.0.0 ++ l) (numbers_takes a n hn))))))
     ∙ sym (pair_spelled x.0 x.1)
 
 below : (n limit : ℕ) → limit ≤ 256 → nat_lt n limit ≡ true → n < 256
@@ -236,8 +235,8 @@ pairs_takes (suc n) ts ps h =
       | inr x ↦
           bind_elim (pair_at ts) _ ps x.1 (λ p hp h1.
           bind_elim (pairs_at n p.1) _ ps h1 (λ others ho h2.
-            subst (λ ps. ts ≡ flat_map pair_tokens ps ++ closing) (same_Some _ _ h2)
-            (pair_takes ts p hp ∙ ap (λ l. pair_tokens p.0 ++ l) (pairs_takes n p.1 others ho) ∙ sym (append_assoc (pair_tokens p.0) (flat_map pair_tokens others) closing))))
+          subst (λ ps. ts ≡ flat_map pair_tokens ps ++ closing) (same_Some _ _ h2)
+          (pair_takes ts p hp ∙ ap (λ l. pair_tokens p.0 ++ l) (pairs_takes n p.1 others ho) ∙ sym (append_assoc (pair_tokens p.0) (flat_map pair_tokens others) closing))))
     ]
 
 opens_pair : (p : Pair) (ts : List Kind) → closes (pair_tokens p ++ ts) ≡ false
@@ -255,7 +254,7 @@ pairs_again (suc n) (p ∷ ps) h right =
     ap (pairs_at (suc n)) (append_assoc (pair_tokens p) (flat_map pair_tokens ps) closing)
     ∙ ap (λ b. cond b (Some []) (pair_at (pair_tokens p ++ rest) >>= λ x. pairs_at n x.1 >>= λ pairs. Some (x.0 ∷ pairs))) (opens_pair p rest)
     ∙ bind_again (pair_at (pair_tokens p ++ rest)) _ _ _ (pair_again p rest parts.0)
-      (bind_again (pairs_at n rest) _ _ _ (pairs_again n ps (omega arith) parts.1) refl)
+    (bind_again (pairs_at n rest) _ _ _ (pairs_again n ps (omega arith) parts.1) refl)
 
 -- ---- the loop over the pairs
 
@@ -295,8 +294,8 @@ heading_takes ts x h =
     bind_elim (after opening ts) _ x h (λ a ha h1.
     bind_elim (name_at a) _ x h1 (λ name hn h2.
     bind_elim (after declarations name.1) _ x h2 (λ rest hr h3.
-      subst (λ (x : List ℕ × List Kind). ts ≡ opening ++ (kind.Name x.0 ∷ (declarations ++ x.1))) (same_Some _ _ h3)
-      (after_takes opening ts a ha ∙ ap (λ l. opening ++ l) (name_takes a name hn ∙ ap (λ l. kind.Name name.0 ∷ l) (after_takes declarations name.1 rest hr))))))
+    subst (λ (x : List ℕ × List Kind). ts ≡ opening ++ (kind.Name x.0 ∷ (declarations ++ x.1))) (same_Some _ _ h3)
+    (after_takes opening ts a ha ∙ ap (λ l. opening ++ l) (name_takes a name hn ∙ ap (λ l. kind.Name name.0 ∷ l) (after_takes declarations name.1 rest hr))))))
 
 heading_again : (name : List ℕ) (ts : List Kind) → IsTrue (is_ascii name) → heading_at (opening ++ (kind.Name name ∷ (declarations ++ ts))) ≡ Some (name, ts)
 unfolding heading_at
@@ -315,8 +314,8 @@ unfolding form_at
 form_takes ts form h =
     bind_elim (heading_at ts) _ form h (λ heading hh h1.
     bind_elim (pairs_at 512 heading.1) _ form h1 (λ ps hp h2.
-      subst (λ (form : Form). ts ≡ opening ++ (kind.Name form.name ∷ (declarations ++ (flat_map pair_tokens form.pairs ++ closing)))) (same_Some _ _ h2)
-      (heading_takes ts heading hh ∙ ap (λ l. opening ++ (kind.Name heading.0 ∷ (declarations ++ l))) (pairs_takes 512 heading.1 ps hp))))
+    subst (λ (form : Form). ts ≡ opening ++ (kind.Name form.name ∷ (declarations ++ (flat_map pair_tokens form.pairs ++ closing)))) (same_Some _ _ h2)
+    (heading_takes ts heading hh ∙ ap (λ l. opening ++ (kind.Name heading.0 ∷ (declarations ++ l))) (pairs_takes 512 heading.1 ps hp))))
     ∙ sym (form_spelled form)
 
 -- what is spelled so is read
@@ -330,4 +329,4 @@ form_again form h =
     let ascii = and_parts (is_ascii form.name) (nat_lt 0 (length form.pairs)) most.0 in
     ap form_at (form_spelled form)
     ∙ bind_again (heading_at (opening ++ (kind.Name form.name ∷ (declarations ++ (flat_map pair_tokens form.pairs ++ closing))))) _ _ _ (heading_again form.name _ ascii.0)
-      (bind_again _ _ _ _ (pairs_again 512 form.pairs (leb-true (length form.pairs) 512 most.1) right.1) refl)
+    (bind_again _ _ _ _ (pairs_again 512 form.pairs (leb-true (length form.pairs) 512 most.1) right.1) refl)

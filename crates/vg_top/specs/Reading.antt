@@ -1,7 +1,6 @@
 -- Reading a form from the kinds of tokens, a piece at a time from the front.
 use Rattle.std.specs.Prelude.{◌≡◌, ℕ, Bool, true, false, not, ◌&&◌, nat_eq, nat_lt, List, [], ◌∷◌, ◌++◌, map, codes, Option, Some, None, if◌then◌else◌, zero, suc}
 use Rattle.std.specs.Str.{bytes_eq}
-use denote.Ref.{Bor}
 use denote.Enum.Bare.{sameb}
 use Rattle.vg_tok.specs.declared.token.Token.{Token}
 use Rattle.vg_tok.specs.declared.token.Kind.{Kind}
@@ -139,7 +138,7 @@ closes ts = is_end (after closing ts)
 unfoldable pub pairs_at : ℕ → List Kind → Option (List Pair)
 pairs_at zero ts = if closes ts then Some [] else None
 pairs_at (suc count) ts =
-  if closes ts then Some [] else (pair_at ts >>= λ x. pairs_at count x.1 >>= λ pairs. Some (x.0 ∷ pairs))
+    if closes ts then Some [] else (pair_at ts >>= λ x. pairs_at count x.1 >>= λ pairs. Some (x.0 ∷ pairs))
 
 -- the pairs before, and those that are read
 abbrev pub with_front : List Pair → Option (List Pair) → Option (List Pair)

@@ -1,10 +1,10 @@
-use crate::form::{Form, Pair};
-
 ghost use Rattle.std.specs.Prelude.{◌≡◌, map};
 ghost use Rattle.std.specs.List.{list_all, list_any};
 ghost use Rattle.vg_top.specs.Form.{fits_fields};
 ghost use Rattle.vg_top.specs.Description.{are_apart, are_distinct, has_name, is_ascii, is_form, same_encoding, taken_names};
 ghost use Rattle.vg_top.specs.Reading.{is_right};
+
+use crate::form::{Form, Pair};
 
 /// A description has at most so many pairs.
 const MOST_PAIRS: usize = 512;

@@ -1,3 +1,10 @@
+ghost use Rattle.std.specs.Prelude.{◌≡◌, ◌+◌, ◌&&◌, nat_lt, nat_eq, slice_index, List, IfOk, MatchOption};
+ghost use Rattle.std.specs.List.{list_any};
+ghost use Rattle.vg_text.specs.Piece.{lacks};
+ghost use Rattle.vg_tok.specs.Lexing.{Lexes};
+ghost use Rattle.vg_top.specs.Description.{IsDescription, IsForm, IsNoDescription, is_binary};
+ghost use Rattle.vg_top.specs.Reading.{IsFormOf};
+
 use crate::build::isa_of;
 use crate::conditions::is_form;
 use crate::form::Form;
@@ -6,13 +13,6 @@ use sqlite_items::Items;
 use std::alloc::{AllocError, Global};
 use vg_isa::Isa;
 use vg_tok::{Kind, TokFault, Token, tokens};
-
-ghost use Rattle.std.specs.Prelude.{◌≡◌, ◌+◌, ◌&&◌, nat_lt, nat_eq, slice_index, List, IfOk, MatchOption};
-ghost use Rattle.std.specs.List.{list_any};
-ghost use Rattle.vg_text.specs.Piece.{lacks};
-ghost use Rattle.vg_tok.specs.Lexing.{Lexes};
-ghost use Rattle.vg_top.specs.Description.{IsDescription, IsForm, IsNoDescription, is_binary};
-ghost use Rattle.vg_top.specs.Reading.{IsFormOf};
 
 /// Whether no byte of the text is this one.
 fn lacks(byte: u8, text: &[u8]) -> bool
@@ -112,4 +112,59 @@ pub(crate) fn description_of(alloc: Global, text: &[u8]) -> Result<Option<Isa>, 
         return Ok(None);
     };
     Ok(Some(isa_of(alloc, &form)?))
+}
+
+#[cfg(test)]
+mod tests {
+    use super::*;
+
+    const HEADING: &str = "instruction set architecture T = {
+  program counter PC : Bits<32>
+  memory MEM : Bits<32> -> Bits<8>
+  register file X : Bits<5> -> Bits<32> zero 0
+  format R : Bits<32> = { f7 [31..25], rs2 [24..20], rs1 [19..15], f3 [14..12], rd [11..7], op [6..0] }
+";
+
+    const ADDI: &str = "  instruction ADDI : R = X(rd) := X(rs1) + rs2 as Bits<32>
+  encoding ADDI = { f7 = 0, f3 = 0, op = 0x13 }
+";
+
+    /// The names of a second instruction and its encoding, the numbers for `f7` and `op`, what stands
+    /// behind them, and whether the text is read.
+    const SECONDS: [(&str, &str, &str, &str, &str, bool); 19] = [
+        ("ADD", "ADD", "0", "0x33", "}\n", true),
+        ("_a1", "_a1", "0", "0x33", "}", true),
+        ("ADD", "ADD", "127", "0x7F", "}", true),
+        ("ADD\t", "\r\nADD", "0", "0x33", "}\t\r\n", true),
+        ("ADD", "SUB", "0", "0x33", "}", false),
+        ("ADD", "ADD", "0b1", "0x33", "}", false),
+        ("ADD", "ADD", "1'2", "0x33", "}", false),
+        ("ADD", "ADD", "128", "0x33", "}", false),
+        ("ADD", "ADD", "256", "0x33", "}", false),
+        ("ADD", "ADD", "0", "0x13", "}", false),
+        ("ADDI", "ADDI", "0", "0x33", "}", false),
+        ("PC", "PC", "0", "0x33", "}", false),
+        ("set", "set", "0", "0x33", "}", false),
+        ("\u{e9}", "\u{e9}", "0", "0x33", "}", false),
+        ("ADD", "ADD", "0", "0x33", "// end\n}", false),
+        ("ADD", "ADD", "0", "0x33", "/* end */ }", false),
+        ("ADD", "ADD", "0", "0x33", "} }", false),
+        ("ADD", "ADD", "0", "0x33", "} X", false),
+        ("ADD", "ADD", "0", "0x33", "", false),
+    ];
+
+    #[test]
+    fn texts_that_are_read(rt: HostRuntime) -> Result<(), AllocError> {
+        let alloc = rt.alloc();
+        for (name, encoded, f7, op, end, read) in SECONDS.iter() {
+            let text = format!(in alloc;
+                "{HEADING}{ADDI}instruction {name} : R = X(rd) := X(rs1) + X(rs2)\nencoding {encoded} = {{ f7 = {f7}, f3 = 0, op = {op} }}\n{end}"
+            )?;
+            let isa = description_of(alloc, text.as_bytes())?;
+            assert_eq!(rt; isa.is_some(), *read, "{text}");
+        }
+        let bare = format!(in alloc; "{HEADING}}}\n")?;
+        assert!(rt; description_of(alloc, bare.as_bytes())?.is_none());
+        Ok(())
+    }
 }

@@ -1,13 +1,13 @@
+ghost use Rattle.std.specs.Prelude.{◌≡◌, ◌∷◌, [], ℕ, IfOk, IfSome, IsTrue, map};
+ghost use Rattle.std.specs.List.{list_all};
+ghost use Rattle.vg_top.specs.Description.{declarations, is_ascii, operand_tokens};
+ghost use Rattle.vg_top.specs.Reading.{Reads, kinds, kind_of, same_kind, after, name_at, number_at, operand_at, instruction_at, numbers_at, pair_at, pairs_at, heading_at, form_at, closes};
+
 use crate::form::{Behaviour, Form, Pair};
 use sqlite_items::Items;
 use std::alloc::{AllocError, Global};
 use vg_isa::Text;
 use vg_tok::{Kind, Sign, Token, Word};
-
-ghost use Rattle.std.specs.Prelude.{◌≡◌, ◌∷◌, [], ℕ, IfOk, IfSome, IsTrue, map};
-ghost use Rattle.std.specs.List.{list_all};
-ghost use Rattle.vg_top.specs.Description.{declarations, is_ascii, operand_tokens};
-ghost use Rattle.vg_top.specs.Reading.{Reads, kinds, kind_of, same_kind, after, name_at, number_at, operand_at, instruction_at, numbers_at, pair_at, pairs_at, heading_at, form_at, closes};
 
 /// A description has at most so many pairs.
 const MOST_PAIRS: usize = 512;
@@ -243,7 +243,11 @@ fn name_at(tokens: &[Token]) -> Option<(&[char], &[Token])>
     match &first.kind {
         Kind::Name(name) => {
             let name = name.as_slice();
-            if is_ascii(name) { Some((name, rest)) } else { None }
+            if is_ascii(name) {
+                Some((name, rest))
+            } else {
+                None
+            }
         }
         _ => None,
     }
@@ -257,7 +261,11 @@ fn number_at(tokens: &[Token]) -> Option<(u8, &[Token])>
     let (first, rest) = tokens.split_first()?;
     match &first.kind {
         Kind::Number(n) => {
-            if *n < 256 { Some((*n as u8, rest)) } else { None }
+            if *n < 256 {
+                Some((*n as u8, rest))
+            } else {
+                None
+            }
         }
         _ => None,
     }
@@ -360,7 +368,11 @@ fn closes(tokens: &[Token]) -> bool
 }
 
 /// At most so many pairs, up to the last brace.
-fn pairs_at(alloc: Global, count: usize, tokens: &[Token]) -> Result<Option<Items<Pair>>, AllocError>
+fn pairs_at(
+    alloc: Global,
+    count: usize,
+    tokens: &[Token],
+) -> Result<Option<Items<Pair>>, AllocError>
     ensures { IfOk result (λ found. Reads (λ pairs. pairs) found (pairs_at count (kinds tokens.now))) }
 {
     let mut pairs = Items::new(alloc);

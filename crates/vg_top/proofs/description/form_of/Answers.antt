@@ -1,4 +1,4 @@
-use Rattle.std.proofs.Common.{◌≡◌, sym, ◌∙◌, Some, None}
+use Rattle.std.proofs.Common.{◌≡◌, sym, Some, None}
 use Rattle.vg_top.specs.Reading.{form_at, kinds}
 use Rattle.vg_top.proofs.Described.{none_read, none_fits, form_read}
 use Rattle.vg_top.proofs.description.form_of.Goals as goal

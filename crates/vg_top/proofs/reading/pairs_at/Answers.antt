@@ -1,4 +1,4 @@
-use Rattle.std.proofs.Common.{◌≡◌, ◌-◌, sym, ◌∙◌, ap, inl, inr, arith, Some, None, ◌++◌, ◌∷◌, []}
+use Rattle.std.proofs.Common.{◌≡◌, ◌-◌, sym, ◌∙◌, ap, inl, inr, arith, Some, None}
 use Rattle.std.proofs.lemmas.List.{append-nil}
 use Rattle.vg_top.specs.Reading.{pairs_at, pair_at, kinds, with_front}
 use Rattle.vg_top.proofs.Spelled.{front_ends, front_none, front_more}
