@@ -7,7 +7,7 @@ ghost use Rattle.vg_top.specs.Reading.{is_right};
 use crate::form::{Form, Pair};
 
 /// A description has at most so many pairs.
-const MOST_PAIRS: usize = 512;
+pub(crate) const MOST_PAIRS: usize = 512;
 
 fn is_ascii(name: &[u8]) -> bool
     ensures { result ≡ is_ascii name.now }

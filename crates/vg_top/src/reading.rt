@@ -3,14 +3,12 @@ ghost use Rattle.std.specs.List.{list_all};
 ghost use Rattle.vg_top.specs.Description.{declarations, is_ascii, operand_tokens};
 ghost use Rattle.vg_top.specs.Reading.{Reads, kinds, kind_of, same_kind, after, name_at, number_at, operand_at, instruction_at, numbers_at, pair_at, pairs_at, heading_at, form_at, closes};
 
+use crate::conditions::MOST_PAIRS;
 use crate::form::{Behaviour, Form, Pair};
 use sqlite_items::Items;
 use std::alloc::{AllocError, Global};
 use vg_isa::Text;
 use vg_tok::{Kind, Sign, Token, Word};
-
-/// A description has at most so many pairs.
-const MOST_PAIRS: usize = 512;
 
 /// A token that is sought.
 #[derive(Clone, Copy)]
