@@ -7,3 +7,5 @@ pub mod RegisterLines
 pub mod NoMemory
 pub mod RunReport
 pub mod Reporting
+pub mod Spelled
+pub mod Described

@@ -8,3 +8,4 @@ pub mod Report
 pub mod Words
 pub mod Loading
 pub mod Answering
+pub mod Reading

@@ -5,17 +5,18 @@ mod answer;
 mod answering;
 mod build;
 mod command;
+mod conditions;
 mod description;
 mod fault;
 mod form;
 mod loading;
 mod program;
+mod reading;
 mod refusal;
 mod report;
 mod running;
 mod status;
-#[cfg(test)]
-mod tests;
+
 mod words;
 
 pub use form::{Behaviour, Form, Pair};
