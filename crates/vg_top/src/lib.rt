@@ -16,7 +16,6 @@ mod refusal;
 mod report;
 mod running;
 mod status;
-
 mod words;
 
 pub use form::{Behaviour, Form, Pair};
