@@ -1,13 +1,16 @@
 -- From the answer of a command to the clauses of the program.
-use Rattle.std.proofs.Common.{◌≡◌, ◌≢◌, ℕ, suc, ◌≤◌, inl, inr, List, [], ◌∷◌, ◌++◌, length, take, min, Option, Some, None, Result, Ok, Err, IfSome, refl, sym, subst, ap, ◌∙◌, append_assoc, arith}
+use Rattle.std.proofs.Common.{◌≡◌, ◌≢◌, ℕ, suc, ◌<◌, ◌≤◌, inl, inr, List, [], ◌∷◌, ◌++◌, length, take, min, Option, Some, None, Result, Ok, Err, IfSome, refl, sym, subst, ap, ◌∙◌, append_assoc, arith}
 use Rattle.vg_top.specs.declared.answer.Answer as answer
 use Rattle.vg_top.specs.declared.fault.Fault.{Fault}
 use Rattle.vg_top.specs.declared.fault.Fault.TheVariants as fault
 use Rattle.vg_top.specs.declared.status.Status.{Status}
 use Rattle.vg_top.specs.declared.status.Status.TheVariants as status
 use Rattle.vg_top.specs.Command.{Command, command_of}
-use Rattle.vg_top.specs.Answers.{Held, CommandAnswers}
-use Rattle.vg_top.specs.Answering.{AsksSo, AsksNames, AsksUnder, AsksForNames, IsCut, IsFinal, IsOfFiles, IsWhole, IsAnswered, Writes}
+use Rattle.vg_top.specs.Answers.{Held, Answers, CommandAnswers}
+use Rattle.vg_top.specs.Answering.{AsksSo, AsksNames, AsksUnder, AsksForNames, IsCut, IsFinal, IsOfFiles, IsUnanswered, IsWhole, IsAnswered, IsComplete, Writes, names_of}
+use Rattle.vg_top.specs.Refusal.{usage_line}
+use Rattle.vg_io.specs.Sink.{append_known}
+use Rattle.vg_io.proofs.Told.{append_known-nil}
 
 -- ---- names
 
@@ -50,6 +53,30 @@ pub writes_usage : (command : Option Command) (wanted result : Status) (text : L
 writes_usage command wanted result text before now whole (inl w) e = whole_usage command wanted whole (sym w.0 ∙ e)
 writes_usage command wanted result text before now whole (inr w) e = absurd (cut_usage result w.0 e)
 
+cut_cause : (s : Status) (put_failed : Type 0) → (s ≡ status.WriteFault → put_failed) → ¬ put_failed → s ≢ status.OutOfMemory → IsCut s → ⊥
+cut_cause status.WriteFault put_failed cause none enough c = none (cause refl)
+cut_cause status.OutOfMemory put_failed cause none enough c = enough refl
+cut_cause status.Done put_failed cause none enough c = c
+cut_cause status.Refused put_failed cause none enough c = c
+cut_cause status.Usage put_failed cause none enough c = c
+cut_cause status.ReadFault put_failed cause none enough c = c
+cut_cause status.Running put_failed cause none enough c = c
+cut_cause status.StackFull put_failed cause none enough c = c
+cut_cause status.Illegal put_failed cause none enough c = c
+cut_cause status.OutOfCode put_failed cause none enough c = c
+
+unanswered_cause : (s : Status) (load_failed : Type 0) → (s ≡ status.ReadFault → load_failed) → ¬ load_failed → s ≢ status.OutOfMemory → IsUnanswered s → ⊥
+unanswered_cause status.ReadFault load_failed cause none enough c = none (cause refl)
+unanswered_cause status.OutOfMemory load_failed cause none enough c = enough refl
+unanswered_cause status.WriteFault load_failed cause none enough c = c
+unanswered_cause status.Done load_failed cause none enough c = c
+unanswered_cause status.Refused load_failed cause none enough c = c
+unanswered_cause status.Usage load_failed cause none enough c = c
+unanswered_cause status.Running load_failed cause none enough c = c
+unanswered_cause status.StackFull load_failed cause none enough c = c
+unanswered_cause status.Illegal load_failed cause none enough c = c
+unanswered_cause status.OutOfCode load_failed cause none enough c = c
+
 -- ---- what is asked for, under the status of the program
 
 asked_under : (all n : ℕ) (s : Status) → (min 1 all ≤ n) × (s ≢ status.Refused → n ≡ all) → IsFinal s → AsksUnder all n s
@@ -91,3 +118,25 @@ pub answered_whole : (told : Option Held) (command : Option Command) (words befo
 answered_whole None command words before_asked now_asked a result before now is h w = tt
 answered_whole (Some held) command words before_asked now_asked a result before now is h w =
     inl (h.0, a.status, a.text.items, subst (λ (c : Option Command). CommandAnswers held c h.0 a.status a.text.items) is h.2, h.1, w)
+
+-- ---- without faults
+
+whole_writes : (wanted result : Status) (text : List ℕ) (before now : Option (List ℕ)) (put_failed : Type 0) → (result ≡ status.WriteFault → put_failed) → ¬ put_failed → result ≢ status.OutOfMemory → Writes wanted text result before now → (result ≡ wanted) × (now ≡ append_known before text)
+whole_writes wanted result text before now put_failed cause none enough (inl w) = w
+whole_writes wanted result text before now put_failed cause none enough (inr w) = absurd (cut_cause result put_failed cause none enough w.0)
+
+pub complete_answered : (told : Option Held) (words before_asked now_asked : List (List ℕ)) (before now : Option (List ℕ)) (result : Status) (load_failed put_failed : Type 0) → IsAnswered told words before_asked now_asked before now result → (result ≡ status.ReadFault → load_failed) → (result ≡ status.WriteFault → put_failed) → IsComplete told words before now result load_failed put_failed
+complete_answered None words before_asked now_asked before now result load_failed put_failed h read write = tt
+complete_answered (Some held) words before_asked now_asked before now result load_failed put_failed (inl h) read write =
+    λ no_load no_put enough.
+    let w : (result ≡ h.1) × (now ≡ append_known before h.2) = whole_writes h.1 result h.2 before now put_failed write no_put enough h.5 in
+    (h.0, h.2, subst (λ (s : Status). Answers held words h.0 s h.2) (sym w.0) h.3, w.1)
+complete_answered (Some held) words before_asked now_asked before now result load_failed put_failed (inr h) read write =
+    λ no_load no_put enough. absurd (unanswered_cause result load_failed read no_load enough h.0)
+
+-- ---- words in no form
+
+pub usage_written : (command : Option Command) (wanted result : Status) (text : List ℕ) (before now : Option (List ℕ)) → (command ≡ None → (wanted ≡ status.Usage) × (text ≡ usage_line)) → Writes wanted text result before now → command ≡ None → Writes status.Usage usage_line result before now
+usage_written command wanted result text before now h w is =
+    let same = h is in
+    subst (λ (t : List ℕ). Writes status.Usage t result before now) same.1 (subst (λ (s : Status). Writes s text result before now) same.0 w)

@@ -93,3 +93,10 @@ AsksUnder all n _ = n ≡ all
 abbrev pub AsksForNames : List (List ℕ) → List (List ℕ) → List (List ℕ) → Status → Type 0
 AsksForNames names before now result =
     (n : ℕ) × (n ≤ length names) × (now ≡ before ++ take n names) × AsksUnder (length names) n result
+
+-- Where the files tell their bytes, and no load failed, no put failed and none took nothing: the whole text of an
+-- answer to the words is written with its status, or no memory was left.
+abbrev pub IsComplete : Option Held → List (List ℕ) → Option (List ℕ) → Option (List ℕ) → Status → Type 0 → Type 0 → Type 0
+IsComplete told words before now result load_failed put_failed =
+    IfSome told (λ held. ¬ load_failed → ¬ put_failed → result ≢ status.OutOfMemory →
+    (asked : List (List ℕ)) × (text : List ℕ) × Answers held words asked result text × (now ≡ append_known before text))

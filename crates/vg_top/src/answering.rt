@@ -1,6 +1,7 @@
-ghost use Rattle.std.specs.Prelude.{◌≡◌, ◌≤◌, ◌<◌, [], ◌∷◌, IfOk, IfSome, IsErrOf, IsTrue, Some, length, map, min};
+ghost use Rattle.std.specs.Prelude.{◌≡◌, ◌≤◌, ◌<◌, [], ◌∷◌, IfOk, IfSome, IsErrOf, IsTrue, None, Some, length, map, min};
 ghost use Rattle.vg_io.specs.Count.{Rose};
 ghost use Rattle.vg_iss.specs.Kept.{is_memory_free};
+ghost use Rattle.vg_top.specs.Refusal.{usage_line as usage};
 ghost use Rattle.vg_top.specs.Answering.{AnswersLoads, AsksNames, IsOfFiles, IsWhole, names_of};
 ghost use Rattle.vg_top.specs.Answers.{Answers, CommandAnswers, ImageAnswers, ImageTextAnswers, DescriptionAnswers, RunAnswers, Reports};
 ghost use Rattle.vg_top.specs.Words.{word_bytes, asked_of};
@@ -130,6 +131,7 @@ pub(crate) fn command_answer<F: Files>(
     ensures kept_faults { F.faults files.old ≤ F.faults files.new }
     ensures asked { AsksNames (min 1 (length (names_of (asked_of command.entry)))) (names_of (asked_of command.entry)) (F.asked files.old) (F.asked files.new) result }
     ensures whole { IfOk result (λ answer. IsWhole (asked_of command.entry) answer.status) }
+    ensures no_form { asked_of command.entry ≡ None → IfOk result (λ answer. (answer.status ≡ Status.Usage) × (answer.text.items ≡ usage)) }
     ensures same { F.held files.new ≡ F.held files.old }
 {
     match command {

@@ -1,8 +1,9 @@
 ghost use Rattle.std.specs.Prelude.{◌≡◌, ◌≤◌, ◌⊎◌, ℕ, None, map};
 ghost use Rattle.vg_io.specs.Count.{Rose};
 ghost use Rattle.vg_io.specs.Sink.{append_known};
-ghost use Rattle.vg_top.specs.Answering.{AsksForNames, IsAnswered, IsFinal, Writes, names_of};
+ghost use Rattle.vg_top.specs.Answering.{AsksForNames, IsAnswered, IsComplete, IsFinal, Writes, names_of};
 ghost use Rattle.vg_top.specs.Command as command;
+ghost use Rattle.vg_top.specs.Refusal.{usage_line};
 ghost use Rattle.vg_top.specs.Words.{word_bytes};
 
 use crate::answer::Answer;
@@ -39,6 +40,13 @@ pub fn vadlgen<F: Files, K: Sink>(
     // The headline: where the files tell their bytes, what is written answers the words.
     ensures answered { IsAnswered (F.held files.old) (map word_bytes words.now) (F.asked files.old) (F.asked files.new) (K.written out.old) (K.written out.new) result }
     ensures asked { AsksForNames (names_of (command.command_of (map word_bytes words.now))) (F.asked files.old) (F.asked files.new) result }
+
+    // Without faults it is written whole.
+    ensures complete { IsComplete (F.held files.old) (map word_bytes words.now) (K.written out.old) (K.written out.new) result
+        (Rose (F.faults files.old) (F.faults files.new)) (Rose (K.faults out.old) (K.faults out.new) ⊎ Rose (K.nones out.old) (K.nones out.new)) }
+
+    // Usage is written exactly where the words are in no form, whatever the files tell.
+    ensures no_form { command.command_of (map word_bytes words.now) ≡ None → Writes Status.Usage usage_line result (K.written out.old) (K.written out.new) }
 
     // Each fault has its cause.
     ensures usage { result ≡ Status.Usage → command.command_of (map word_bytes words.now) ≡ None }

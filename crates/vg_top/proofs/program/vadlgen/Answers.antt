@@ -1,7 +1,7 @@
 use Rattle.std.proofs.Common.{map}
 use Rattle.vg_top.specs.Answering.{names_of}
 use Rattle.vg_top.specs.Words.{asked_of, word_bytes}
-use Rattle.vg_top.proofs.Writing.{answered_whole, asks_final, whole_final, writes_usage}
+use Rattle.vg_top.proofs.Writing.{answered_whole, asks_final, complete_answered, usage_written, whole_final, writes_usage}
 use Rattle.vg_top.proofs.program.vadlgen.Goals as goal
 
 pub write_answer-requires : goal.write_answer-requires
@@ -27,3 +27,16 @@ returns-in-Ok-clause-usage g c =
     (writes_usage (asked_of c.command_of.result) c.in-Ok.answer.status c.write_answer.result c.in-Ok.answer.text.items
     (g.K.Sink.written c.args.out.now) (g.K.Sink.written c.write_answer.new.out)
     c.in-Ok.ensures.whole c.write_answer.ensures.writes)
+
+pub returns-in-Ok-clause-complete : goal.returns-in-Ok-clause-complete
+returns-in-Ok-clause-complete g c =
+    complete_answered (g.F.Files.held c.args.files.now) (map word_bytes c.args.words.now) (g.F.Files.asked c.args.files.now) (g.F.Files.asked c.command_answer.new.files)
+    (g.K.Sink.written c.args.out.now) (g.K.Sink.written c.write_answer.new.out) c.write_answer.result _ _
+    (returns-in-Ok-clause-answered g c) (λ e. absurd (c.write_answer.ensures.read e)) c.write_answer.ensures.write
+
+pub returns-in-Ok-clause-no_form : goal.returns-in-Ok-clause-no_form
+returns-in-Ok-clause-no_form g c =
+    rw (← c.command_of.ensures)
+    (usage_written (asked_of c.command_of.result) c.in-Ok.answer.status c.write_answer.result c.in-Ok.answer.text.items
+    (g.K.Sink.written c.args.out.now) (g.K.Sink.written c.write_answer.new.out)
+    c.in-Ok.ensures.no_form c.write_answer.ensures.writes)
