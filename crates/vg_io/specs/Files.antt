@@ -1,3 +1,4 @@
+-- What a load gives, which names it asks for, and when it has failed.
 use Rattle.std.specs.Prelude.{◌≡◌, ℕ, Bool, true, false, List, [], ◌∷◌, ◌++◌, ◌⊎◌, Option, option_map, take, Result, Ok, Err}
 use Rattle.vg_io.specs.declared.load_fault.LoadFault.{LoadFault}
 use Rattle.vg_io.specs.declared.load_fault.LoadFault.TheVariants.{Failed, OutOfMemory}

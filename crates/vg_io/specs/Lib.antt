@@ -2,6 +2,7 @@ pub mod Count
 pub mod Files
 pub mod MemFiles
 pub mod MemSink
+pub mod Putting
 pub mod RealFiles
 pub mod RealOut
 pub mod Schedule

@@ -1,3 +1,4 @@
+-- What contracts see of files in memory.
 use Rattle.std.specs.Prelude.{ℕ, List, [], ◌∷◌, Option, None, Some, if◌then◌else◌, map, String, Vec, string_bytes}
 use Rattle.std.specs.Str.{bytes_eq}
 use Rattle.vg_io.specs.Schedule.{Schedule}

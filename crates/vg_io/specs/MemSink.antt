@@ -1,3 +1,4 @@
+-- What contracts see of a sink in memory.
 use Rattle.std.specs.Prelude.{ℕ, List, [], ◌∷◌}
 use Rattle.vg_io.specs.Schedule.{Schedule, after_call}
 

@@ -1,3 +1,4 @@
+-- What contracts see of the files of the system.
 use Rattle.std.specs.Prelude.{ℕ, List}
 
 -- what the system's files tell: the names loaded so far, and how many loads gave no bytes

@@ -1,3 +1,4 @@
+-- Which calls of the files and the sink in memory fail.
 use Rattle.std.specs.Prelude.{ℕ, ◌+◌, ◌-◌, ◌^◌, min, List, Contains}
 
 -- which calls fail, by their numbers counted from 0, and how many were made

@@ -1,4 +1,6 @@
-use Rattle.std.specs.Prelude.{ℕ, zero, suc, Bool, true, false, List, [], ◌∷◌, ◌++◌, Option, option_map, Result, Ok, Err}
+-- What a put takes of a piece, and what it does to the counts of the output.
+use Rattle.std.specs.Prelude.{◌≡◌, ℕ, zero, suc, Bool, true, false, if◌then◌else◌, List, [], ◌∷◌, ◌++◌, Option, option_map, Result, Ok, Err}
+use Rattle.vg_io.specs.Count.{one_more}
 use Rattle.vg_io.specs.declared.put_fault.PutFault.{PutFault}
 use Rattle.vg_io.specs.declared.put_fault.PutFault.TheVariants.{Failed, OutOfMemory}
 
@@ -23,3 +25,10 @@ took_none (Ok zero) [] = false
 took_none (Ok zero) (_ ∷ _) = true
 took_none (Ok (suc _)) _ = false
 took_none (Err _) _ = false
+
+-- A put that failed raises the count of failures by one, one that took nothing the other count; no other put
+-- changes a count. (The counts before, and then those after.)
+abbrev pub CountsPut : Result ℕ PutFault → List ℕ → ℕ → ℕ → ℕ → ℕ → Type 0
+CountsPut result piece faults nones faults' nones' =
+    (faults' ≡ (if put_failed result then one_more faults else faults))
+    × (nones' ≡ (if took_none result piece then one_more nones else nones))

@@ -1,3 +1,4 @@
+-- Lists of texts as bytes.
 use Rattle.std.specs.Prelude.{ℕ, List, map, String, string_bytes}
 
 -- the bytes of these texts

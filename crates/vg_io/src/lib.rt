@@ -5,8 +5,9 @@
 //! many of its first bytes were written. [`put_all`] puts a whole text so.
 //!
 //! What is proved, for every implementation: a load gives exactly the first bytes of the named
-//! file, a put appends exactly the bytes that it answers for, and each failure was counted. Where
-//! an object doesn't tell its bytes, the counts and the bounds still hold.
+//! file, a put appends exactly the bytes that it answers for, and each failure was counted; each put
+//! that failed or took nothing exactly once, and no other. Putting a whole text stops at the first
+//! such put. Where an object doesn't tell its bytes, the counts and the bounds still hold.
 //!
 //! [`MemFiles`] and [`MemSink`] keep bytes in memory, tell them, and fail at the calls that they
 //! are told to. [`RealFiles`] and [`RealOut`] are the system's files and standard output, and tell

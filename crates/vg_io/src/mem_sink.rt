@@ -1,7 +1,7 @@
-ghost use Rattle.std.specs.Prelude.{◌≡◌, ◌≤◌, ◌<◌, ◌↔◌, ◌++◌, [], Some, Ok, IfOk, IsErrOf, length, take, min, if◌then◌else◌};
-ghost use Rattle.vg_io.specs.Count.{Rose, one_more};
+ghost use Rattle.std.specs.Prelude.{◌≡◌, ◌≤◌, ◌<◌, ◌↔◌, ◌++◌, [], Some, Ok, IfOk, IsErrOf, length, take, min};
+ghost use Rattle.vg_io.specs.Count.{Rose};
 ghost use Rattle.vg_io.specs.Schedule.{IsFailing};
-ghost use Rattle.vg_io.specs.Sink.{append_known, count_taken, put_failed, took_none};
+ghost use Rattle.vg_io.specs.Sink.{append_known, count_taken, CountsPut};
 ghost use Rattle.vg_io.specs.MemSink.{calls_after};
 
 use crate::schedule::Schedule;
@@ -64,13 +64,12 @@ impl Sink for MemSink {
         ensures none { IfOk result (λ count. count ≡ 0 → 0 < length bytes.now → Rose self.old.nones self.new.nones) }
         ensures kept_faults { self.old.faults ≤ self.new.faults }
         ensures kept_nones { self.old.nones ≤ self.new.nones }
+        ensures counts { CountsPut result bytes.now self.old.faults self.old.nones self.new.faults self.new.nones }
         ensures empty { bytes.now ≡ [] → (result ≡ Ok 0) × (self.new.faults ≡ self.old.faults) × (self.new.nones ≡ self.old.nones) }
 
         ensures fails { IsErrOf result PutFault.Failed ↔ ((0 < length bytes.now) × IsFailing self.old.schedule) }
         ensures takes { IfOk result (λ count. count ≡ min self.old.piece (length bytes.now)) }
         ensures calls { self.new.schedule ≡ calls_after self.old.schedule bytes.now }
-        ensures faults { self.new.faults ≡ (if put_failed result then one_more self.old.faults else self.old.faults) }
-        ensures nones { self.new.nones ≡ (if took_none result bytes.now then one_more self.old.nones else self.old.nones) }
         ensures piece { self.new.piece ≡ self.old.piece }
     {
         if bytes.is_empty() {

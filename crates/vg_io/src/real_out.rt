@@ -1,6 +1,6 @@
-ghost use Rattle.std.specs.Prelude.{◌≡◌, ◌≤◌, ◌<◌, [], None, Ok, IfOk, IsErrOf, length, if◌then◌else◌};
-ghost use Rattle.vg_io.specs.Count.{Rose, one_more};
-ghost use Rattle.vg_io.specs.Sink.{put_failed, took_none};
+ghost use Rattle.std.specs.Prelude.{◌≡◌, ◌≤◌, ◌<◌, [], None, Ok, IfOk, IsErrOf, length};
+ghost use Rattle.vg_io.specs.Count.{Rose};
+ghost use Rattle.vg_io.specs.Sink.{CountsPut};
 
 use crate::{PutFault, Sink};
 use std::marker::Model;
@@ -47,10 +47,9 @@ impl<P: Print> Sink for RealOut<'_, P> {
         ensures none { IfOk result (λ count. count ≡ 0 → 0 < length bytes.now → Rose self.old.nones self.new.nones) }
         ensures kept_faults { self.old.faults ≤ self.new.faults }
         ensures kept_nones { self.old.nones ≤ self.new.nones }
+        ensures counts { CountsPut result bytes.now self.old.faults self.old.nones self.new.faults self.new.nones }
         ensures empty { bytes.now ≡ [] → (result ≡ Ok 0) × (self.new.faults ≡ self.old.faults) × (self.new.nones ≡ self.old.nones) }
 
-        ensures faults { self.new.faults ≡ (if put_failed result then one_more self.old.faults else self.old.faults) }
-        ensures nones { self.new.nones ≡ (if took_none result bytes.now then one_more self.old.nones else self.old.nones) }
         ensures never { IsErrOf result PutFault.OutOfMemory → ⊥ }
     {
         if bytes.is_empty() {

@@ -1,5 +1,5 @@
 -- From the answer of a command to the clauses of the program.
-use Rattle.std.proofs.Common.{◌≡◌, ◌≢◌, ℕ, suc, ◌<◌, ◌≤◌, inl, inr, List, [], ◌∷◌, ◌++◌, length, take, min, Option, Some, None, Result, Ok, Err, IfSome, refl, sym, subst, ap, ◌∙◌, append_assoc, arith}
+use Rattle.std.proofs.Common.{◌≡◌, ◌≢◌, ℕ, suc, ◌≤◌, inl, inr, List, [], ◌∷◌, ◌++◌, length, take, min, Option, Some, None, Result, Ok, Err, IfSome, refl, sym, subst, ap, ◌∙◌, append_assoc, arith}
 use Rattle.vg_top.specs.declared.answer.Answer as answer
 use Rattle.vg_top.specs.declared.fault.Fault.{Fault}
 use Rattle.vg_top.specs.declared.fault.Fault.TheVariants as fault
@@ -7,10 +7,9 @@ use Rattle.vg_top.specs.declared.status.Status.{Status}
 use Rattle.vg_top.specs.declared.status.Status.TheVariants as status
 use Rattle.vg_top.specs.Command.{Command, command_of}
 use Rattle.vg_top.specs.Answers.{Held, Answers, CommandAnswers}
-use Rattle.vg_top.specs.Answering.{AsksSo, AsksNames, AsksUnder, AsksForNames, IsCut, IsFinal, IsOfFiles, IsUnanswered, IsWhole, IsAnswered, IsComplete, Writes, names_of}
+use Rattle.vg_top.specs.Answering.{AsksSo, AsksNames, AsksUnder, AsksForNames, IsCut, IsFinal, IsOfFiles, IsUnanswered, IsWhole, IsAnswered, IsComplete, Writes}
 use Rattle.vg_top.specs.Refusal.{usage_line}
 use Rattle.vg_io.specs.Sink.{append_known}
-use Rattle.vg_io.proofs.Told.{append_known-nil}
 
 -- ---- names
 

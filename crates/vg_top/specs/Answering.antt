@@ -1,5 +1,6 @@
 -- What is said of functions that load files, make an answer and write it.
 use Rattle.std.specs.Prelude.{◌≡◌, ◌≢◌, ℕ, ◌<◌, ◌≤◌, ◌⊎◌, ⊤, List, [], ◌∷◌, ◌++◌, take, length, min, Option, Some, None, Result, Ok, Err, IfOk, IfSome}
+use Rattle.vg_io.specs.Putting.{NoneCounted, OneCounted}
 use Rattle.vg_io.specs.Sink.{append_known}
 use Rattle.vg_top.specs.declared.answer.Answer.{Answer}
 use Rattle.vg_top.specs.declared.fault.Fault.{Fault}
@@ -100,3 +101,9 @@ abbrev pub IsComplete : Option Held → List (List ℕ) → Option (List ℕ) �
 IsComplete told words before now result load_failed put_failed =
     IfSome told (λ held. ¬ load_failed → ¬ put_failed → result ≢ status.OutOfMemory →
     (asked : List (List ℕ)) × (text : List ℕ) × Answers held words asked result text × (now ≡ append_known before text))
+
+-- With a write fault exactly one put failed or took nothing, and with every other status none did. (The output's
+-- counts of both before, and then those after.)
+abbrev pub StopsAtOnce : Status → ℕ → ℕ → ℕ → ℕ → Type 0
+StopsAtOnce status.WriteFault faults nones faults' nones' = OneCounted faults nones faults' nones'
+StopsAtOnce _ faults nones faults' nones' = NoneCounted faults nones faults' nones'

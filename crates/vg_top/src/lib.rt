@@ -10,7 +10,7 @@
 //! file is refused exactly where it is too long or is no text of its form, and a file is asked for only where
 //! all before it were accepted. The whole text is written with its status, unless a put or load failed or no
 //! memory was left, and then a prefix of it. Each fault has its cause in a count of the files or the output
-//! that rose.
+//! that rose. The first put that fails or takes nothing ends the call with a write fault.
 //!
 //! **Main types:** [`Status`], whose number is the exit status; [`Form`], the descriptions that are read so far.
 //!

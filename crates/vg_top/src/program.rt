@@ -1,7 +1,7 @@
 ghost use Rattle.std.specs.Prelude.{◌≡◌, ◌≤◌, ◌⊎◌, ℕ, None, map};
 ghost use Rattle.vg_io.specs.Count.{Rose};
 ghost use Rattle.vg_io.specs.Sink.{append_known};
-ghost use Rattle.vg_top.specs.Answering.{AsksForNames, IsAnswered, IsComplete, IsFinal, Writes, names_of};
+ghost use Rattle.vg_top.specs.Answering.{AsksForNames, IsAnswered, IsComplete, IsFinal, StopsAtOnce, Writes, names_of};
 ghost use Rattle.vg_top.specs.Command as command;
 ghost use Rattle.vg_top.specs.Refusal.{usage_line};
 ghost use Rattle.vg_top.specs.Words.{word_bytes};
@@ -19,6 +19,7 @@ fn write_answer<K: Sink>(out: &mut K, answer: &Answer) -> Status
     requires { IsFinal answer.now.status }
     ensures writes { Writes answer.now.status answer.now.text.items result (K.written out.old) (K.written out.new) }
     ensures write { result ≡ Status.WriteFault → Rose (K.faults out.old) (K.faults out.new) ⊎ Rose (K.nones out.old) (K.nones out.new) }
+    ensures at_once { StopsAtOnce result (K.faults out.old) (K.nones out.old) (K.faults out.new) (K.nones out.new) }
     ensures read { result ≡ Status.ReadFault → ⊥ }
     ensures kept_faults { K.faults out.old ≤ K.faults out.new }
     ensures kept_nones { K.nones out.old ≤ K.nones out.new }
@@ -52,6 +53,9 @@ pub fn vadlgen<F: Files, K: Sink>(
     ensures usage { result ≡ Status.Usage → command.command_of (map word_bytes words.now) ≡ None }
     ensures read { result ≡ Status.ReadFault → Rose (F.faults files.old) (F.faults files.new) × (K.written out.new ≡ K.written out.old) }
     ensures write { result ≡ Status.WriteFault → Rose (K.faults out.old) (K.faults out.new) ⊎ Rose (K.nones out.old) (K.nones out.new) }
+
+    // A write fault comes at the first put that fails or takes nothing: no other one does, and none under another status.
+    ensures at_once { StopsAtOnce result (K.faults out.old) (K.nones out.old) (K.faults out.new) (K.nones out.new) }
 
     // The counts never fall, and the files stay.
     ensures kept_loads { F.faults files.old ≤ F.faults files.new }
