@@ -1,0 +1,14 @@
+pub mod Placed
+pub mod Concrete
+pub mod Operator
+pub mod Spelling
+pub mod Grouping
+pub mod Depth
+pub mod Tree
+pub mod ConcreteItem
+pub mod SpellingItem
+pub mod Grammar
+pub mod TreeItem
+pub mod Description
+pub mod Piece
+pub mod Leaving

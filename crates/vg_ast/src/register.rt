@@ -1,0 +1,8 @@
+use crate::{Expr, Name};
+
+/// A register of a register file, as a role of the ABI names it.
+#[derive(Drop)]
+pub struct Register {
+    pub file: Name,
+    pub index: Expr,
+}
