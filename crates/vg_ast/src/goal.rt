@@ -1,4 +1,5 @@
 use crate::{Expr, Name};
+use sqlite_items::Boxed;
 
 /// What a statement writes.
 #[derive(Drop)]
@@ -8,13 +9,13 @@ pub enum Goal {
     /// A register of a register file.
     Indexed {
         name: Name,
-        index: Expr,
+        index: Boxed<Expr>,
     },
     /// Bytes of memory, `memory<size>(address)`; `at` is the place of the `<`.
     Access {
         memory: Name,
         at: usize,
-        size: Expr,
-        address: Expr,
+        size: Boxed<Expr>,
+        address: Boxed<Expr>,
     },
 }

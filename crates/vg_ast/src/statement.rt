@@ -11,18 +11,18 @@ pub enum Statement {
     Let {
         at: usize,
         name: Name,
-        bound: Expr,
+        bound: Boxed<Expr>,
         body: Boxed<Statement>,
     },
     If {
         at: usize,
-        condition: Expr,
+        condition: Boxed<Expr>,
         then: Boxed<Statement>,
         otherwise: Option<Boxed<Statement>>,
     },
     /// `goal := value`
     Assign {
         goal: Goal,
-        value: Expr,
+        value: Boxed<Expr>,
     },
 }
