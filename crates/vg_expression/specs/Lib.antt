@@ -1,0 +1,5 @@
+pub mod Lexeme
+pub mod Lookahead
+pub mod Reading
+pub mod Parts
+pub mod Exact

@@ -1,0 +1,13 @@
+pub mod Formats
+pub mod ItemComplete
+pub mod ItemSound
+pub mod PieceExact
+pub mod RoleComplete
+pub mod RoleSound
+pub mod Rows
+pub mod Standing
+pub mod StatementComplete
+pub mod StatementSound
+pub mod Statements
+pub mod Succeeding
+pub mod Tokens

@@ -1,0 +1,12 @@
+pub mod Leading
+pub mod Quiet
+pub mod Whole
+pub mod Pieces
+pub mod Open
+pub mod Sound
+pub mod Complete
+pub mod Place
+pub mod Front
+pub mod Reading
+pub mod Readers
+pub mod Answer

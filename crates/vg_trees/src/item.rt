@@ -1,0 +1,183 @@
+//! Items of the instruction set part.
+
+use crate::expression::{push_next, push_type};
+use crate::statement::push_statement;
+use crate::words::{push_characters, push_head, push_name, push_next_name};
+use std::alloc::{AllocError, Global};
+use vg_ast::{Field, Fix, Item, Name, NumberFormat, Parameter, Part};
+
+/// The beginning of an item, with the name that it defines or is of.
+fn push_named(
+    alloc: Global,
+    out: &mut String,
+    word: &str,
+    at: usize,
+    name: &Name,
+) -> Result<(), AllocError> {
+    out.push_str("\n")?;
+    push_head(alloc, out, word, at)?;
+    push_next_name(alloc, out, name)
+}
+
+fn push_parameter(
+    alloc: Global,
+    out: &mut String,
+    parameter: &Parameter,
+) -> Result<(), AllocError> {
+    out.push_str(" (")?;
+    push_name(alloc, out, &parameter.name)?;
+    push_type(&parameter.declared, alloc, out)?;
+    out.push_str(")")
+}
+
+fn push_field(alloc: Global, out: &mut String, field: &Field) -> Result<(), AllocError> {
+    out.push_str(" (")?;
+    push_name(alloc, out, &field.name)?;
+    for range in field.ranges.as_slice() {
+        out.push_str(" (range")?;
+        push_next(&range.high, alloc, out)?;
+        if let Some(low) = &range.low {
+            push_next(low, alloc, out)?;
+        }
+        out.push_str(")")?;
+    }
+    out.push_str(")")
+}
+
+fn push_fix(alloc: Global, out: &mut String, fix: &Fix) -> Result<(), AllocError> {
+    out.push_str(" (")?;
+    push_name(alloc, out, &fix.name)?;
+    push_next(&fix.value, alloc, out)?;
+    out.push_str(")")
+}
+
+fn format_word(format: NumberFormat) -> &'static str {
+    match format {
+        NumberFormat::Decimal => "decimal",
+        NumberFormat::Signed => "signed",
+        NumberFormat::Hex => "hex",
+    }
+}
+
+fn push_part(alloc: Global, out: &mut String, part: &Part) -> Result<(), AllocError> {
+    out.push_str(" ")?;
+    match part {
+        Part::Text { at, text } => {
+            push_head(alloc, out, "text", *at)?;
+            out.push_str(" \"")?;
+            push_characters(out, text.as_slice())?;
+            out.push_str("\"")?;
+        }
+        Part::Mnemonic { at } => push_head(alloc, out, "mnemonic", *at)?,
+        Part::Register { at, file, field } => {
+            push_head(alloc, out, "register", *at)?;
+            push_next_name(alloc, out, file)?;
+            push_next_name(alloc, out, field)?;
+        }
+        Part::Number { format, at, field } => {
+            push_head(alloc, out, format_word(*format), *at)?;
+            push_next_name(alloc, out, field)?;
+        }
+        Part::Target { at, field, shift } => {
+            push_head(alloc, out, "target", *at)?;
+            push_next_name(alloc, out, field)?;
+            push_next(shift, alloc, out)?;
+        }
+    }
+    out.push_str(")")
+}
+
+/// An item on a line of its own.
+pub fn push_item(alloc: Global, out: &mut String, item: &Item) -> Result<(), AllocError> {
+    match item {
+        Item::Constant { at, name, value } => {
+            push_named(alloc, out, "constant", *at, name)?;
+            push_next(value, alloc, out)?;
+        }
+        Item::Using { at, name, meaning } => {
+            push_named(alloc, out, "using", *at, name)?;
+            push_type(meaning, alloc, out)?;
+        }
+        Item::Function {
+            at,
+            name,
+            parameters,
+            result,
+            body,
+        } => {
+            push_named(alloc, out, "function", *at, name)?;
+            for parameter in parameters.as_slice() {
+                push_parameter(alloc, out, parameter)?;
+            }
+            push_type(result, alloc, out)?;
+            push_next(body, alloc, out)?;
+        }
+        Item::ProgramCounter { at, name, declared } => {
+            push_named(alloc, out, "counter", *at, name)?;
+            push_type(declared, alloc, out)?;
+        }
+        Item::Memory {
+            at,
+            name,
+            address,
+            cell,
+        } => {
+            push_named(alloc, out, "memory", *at, name)?;
+            push_type(address, alloc, out)?;
+            push_type(cell, alloc, out)?;
+        }
+        Item::Register { at, name, declared } => {
+            push_named(alloc, out, "register", *at, name)?;
+            push_type(declared, alloc, out)?;
+        }
+        Item::RegisterFile {
+            at,
+            name,
+            index,
+            declared,
+            zero,
+        } => {
+            push_named(alloc, out, "file", *at, name)?;
+            push_type(index, alloc, out)?;
+            push_type(declared, alloc, out)?;
+            if let Some(zero) = zero {
+                push_next(zero, alloc, out)?;
+            }
+        }
+        Item::Format {
+            at,
+            name,
+            declared,
+            fields,
+        } => {
+            push_named(alloc, out, "format", *at, name)?;
+            push_type(declared, alloc, out)?;
+            for field in fields.as_slice() {
+                push_field(alloc, out, field)?;
+            }
+        }
+        Item::Instruction {
+            at,
+            name,
+            format,
+            behaviour,
+        } => {
+            push_named(alloc, out, "instruction", *at, name)?;
+            push_next_name(alloc, out, format)?;
+            push_statement(behaviour, alloc, out)?;
+        }
+        Item::Encoding { at, name, fixes } => {
+            push_named(alloc, out, "encoding", *at, name)?;
+            for fix in fixes.as_slice() {
+                push_fix(alloc, out, fix)?;
+            }
+        }
+        Item::Assembly { at, name, parts } => {
+            push_named(alloc, out, "assembly", *at, name)?;
+            for part in parts.as_slice() {
+                push_part(alloc, out, part)?;
+            }
+        }
+    }
+    out.push_str(")")
+}
