@@ -1,0 +1,6 @@
+pub mod MetLemmas
+pub mod TableLemmas
+pub mod InnerLemmas
+pub mod FirstLemmas
+pub mod ExpressionLemmas
+pub mod StatementLemmas
