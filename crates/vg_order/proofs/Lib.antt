@@ -1,0 +1,11 @@
+pub mod Counts
+pub mod Nodes
+pub mod SearchLemmas
+pub mod CircleLemmas
+pub mod NameLemmas
+pub mod Lookups
+pub mod Distinct
+pub mod Lift
+pub mod LiftOrder
+pub mod OrderLemmas
+pub mod ParameterLemmas
