@@ -1,0 +1,11 @@
+use Rattle.std.proofs.Common.{◌≡◌, drop}
+use Rattle.vg_names.specs.First.{first_of}
+use Rattle.vg_names.specs.Unknown.{in_each}
+use Rattle.vg_whole.specs.Overflow.{range_overflows}
+use Rattle.vg_whole.specs.Worths.{constants_by}
+use Rattle.vg_whole.proofs.overflow_item.ranges.Given as goal
+
+abbrev pub invariant-loop-one : goal.invariant-loop-one
+invariant-loop-one l =
+    first_of (in_each (range_overflows (constants_by l.table.items.now l.worths)) l.ranges)
+    ≡ first_of (in_each (range_overflows (constants_by l.table.items.now l.worths)) (drop l.one-index l.ranges))

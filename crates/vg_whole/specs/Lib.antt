@@ -1,0 +1,4 @@
+pub mod Whole
+pub mod Overflow
+pub mod Bindings
+pub mod Worths

@@ -1,0 +1,10 @@
+/// What an expression is worth, before any width is known.
+#[derive(Clone, Copy, Debug, PartialEq, Eq)]
+pub enum Worth {
+    /// A whole number.
+    Whole(u128),
+    /// Of whole numbers alone, but an operator in it leaves 0 to 2^128 - 1 or divides by 0.
+    Broken,
+    /// No whole number, since it has a type.
+    Typed,
+}
