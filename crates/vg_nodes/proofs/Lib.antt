@@ -1,0 +1,15 @@
+pub mod Capping
+pub mod MeasureLemmas
+pub mod InnerLemmas
+pub mod Agreement
+pub mod AddsLemmas
+pub mod Fixed
+pub mod Numbers
+pub mod PositionLemmas
+pub mod WorthLemmas
+pub mod CountLemmas
+pub mod StatementLemmas
+pub mod FormLemmas
+pub mod FirstLemmas
+pub mod StatementAgreement
+pub mod ExcessLemmas
