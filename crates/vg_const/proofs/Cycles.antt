@@ -1,0 +1,113 @@
+-- Where there is an order nothing uses itself, and at most one item is the first that uses itself.
+use Rattle.std.proofs.Common.{◌≡◌, ℕ, suc, ◌<◌, ◌≤◌, ◌⊎◌, inl, inr, Bool, true, false, ◌&&◌, List, [], ◌∷◌, ◌++◌, length, Option, Some, None, refl, sym, ap, subst, ◌∙◌, arith, true≢false, if◌then◌else◌}
+use Rattle.std.specs.Prelude.{slice_get}
+use Rattle.vg_ast.specs.declared.name.Name.{Name}
+use Rattle.vg_ast.specs.declared.item.Item.{Item}
+use Rattle.vg_ast.specs.declared.desc.Desc.{Desc}
+use Rattle.vg_names.specs.Definition.{Text, item_named, is_among}
+use Rattle.vg_names.specs.Duplicate.{duplicates}
+use Rattle.vg_order.specs.Uses.{uses_of}
+use Rattle.vg_order.specs.Cyclic.{replaced_name, is_replaced, Uses, Reaches, directly, through, IsCyclic, NoneIsCyclic, IsFirstCyclic, text_of, names_of, may_follow, is_order_behind, IsOrder}
+use Rattle.vg_order.proofs.Lookups.{user_replaced}
+use Rattle.vg_nodes.proofs.Fixed.{among_cases, own_item}
+use Rattle.vg_const.proofs.Ordered.{both_left, both_right, in_order, used_before}
+
+-- how many stand in an order from a name on
+abbrev standing_from : List Item → List ℕ → Text → ℕ
+standing_from all [] text = 0
+standing_from all (k ∷ ks) text = if is_among text (text_of (slice_get all k)) then suc (length ks) else standing_from all ks text
+
+at_most_all : (all : List Item) (order : List ℕ) (text : Text) → standing_from all order text ≤ length order
+at_most_all all [] text = omega arith
+at_most_all all (k ∷ ks) text = by (is_among text (text_of (slice_get all k))) (at_most_all all ks text)
+  where
+    by : (t : Bool) → standing_from all ks text ≤ length ks → (if t then suc (length ks) else standing_from all ks text) ≤ suc (length ks)
+    by true h = omega arith
+    by false h = omega arith
+
+-- From the first name of an order on, all stand: one more than the n behind it. From any other name on, at most those n do.
+
+first_longer : (x y : Bool) (i j n : ℕ) → x ≡ false → i ≤ n → y ≡ true → (if x then suc n else i) < (if y then suc n else j)
+first_longer true y i j n other le same = absurd (true≢false other)
+first_longer false true i j n other le same = omega arith
+first_longer false false i j n other le same = absurd (true≢false (sym same))
+
+still_longer : (x y : Bool) (i j n : ℕ) → x ≡ false → i ≤ n → i < j → (if x then suc n else i) < (if y then suc n else j)
+still_longer true y i j n other le lt = absurd (true≢false other)
+still_longer false true i j n other le lt = omega arith
+still_longer false false i j n other le lt = lt
+
+module _ (d : Desc) (distinct : duplicates d ≡ []) (a b : Text) (usage : Uses d.items a b) where
+  -- what is used stands in front, or these numbers are those of an order in which more stand from it on than from its user
+  abbrev Precedes : List Text → ℕ → ℕ → Type 0
+  Precedes front i j = (is_among b front ≡ true) ⊎ (i < j)
+
+  used_in_front : (front : List Text) (order : List ℕ) → is_order_behind d.items front order ≡ true → is_among a (names_of d.items order) ≡ true → Precedes front (standing_from d.items order a) (standing_from d.items order b)
+  used_in_front front [] behind among = absurd (true≢false (sym among))
+  used_in_front front (k ∷ ks) behind among = by (λ names. used_in_front names ks) (slice_get d.items k) refl behind among
+    where
+      by : ((names : List Text) → is_order_behind d.items names ks ≡ true → is_among a (names_of d.items ks) ≡ true → Precedes names (standing_from d.items ks a) (standing_from d.items ks b))
+          → (o : Option Item) → slice_get d.items k ≡ o → (may_follow d.items front o && is_order_behind d.items (text_of o ++ front) ks) ≡ true → is_among a (text_of o ++ names_of d.items ks) ≡ true
+          → Precedes front (if is_among a (text_of o) then suc (length ks) else standing_from d.items ks a) (if is_among b (text_of o) then suc (length ks) else standing_from d.items ks b)
+      by again None at h e = absurd (true≢false (sym h))
+      by again (Some item) at h e = cases (is_among a (text_of (Some item))) refl
+        where
+          follows : may_follow d.items front (Some item) ≡ true
+          follows = both_left (may_follow d.items front (Some item)) (is_order_behind d.items (text_of (Some item) ++ front) ks) h
+
+          cases : (x : Bool) → is_among a (text_of (Some item)) ≡ x
+              → Precedes front (if is_among a (text_of (Some item)) then suc (length ks) else standing_from d.items ks a) (if is_among b (text_of (Some item)) then suc (length ks) else standing_from d.items ks b)
+          cases true own =
+              let named : Some item ≡ Some usage.user = sym (own_item d k item a distinct at own) ∙ usage.found in
+              let same : usage.user ≡ item = cc in
+              inl (used_before d.items front item b follows (ap (λ (i : Item). is_among b (uses_of i)) (sym same) ∙ usage.used) usage.replaced)
+          cases false other =
+              let rest = among_cases (is_among a (names_of d.items ks) ≡ true) a (text_of (Some item)) (names_of d.items ks) (λ own. absurd (true≢false (sym own ∙ other))) (λ behind. behind) e in
+              let le = at_most_all d.items ks a in
+              let x = is_among a (text_of (Some item)) in
+              let y = is_among b (text_of (Some item)) in
+              elim (again (text_of (Some item) ++ front) (both_right (may_follow d.items front (Some item)) (is_order_behind d.items (text_of (Some item) ++ front) ks) h) rest) [
+                | inl before ↦ among_cases (Precedes front (if is_among a (text_of (Some item)) then suc (length ks) else standing_from d.items ks a) (if is_among b (text_of (Some item)) then suc (length ks) else standing_from d.items ks b))
+                    b (text_of (Some item)) front (λ here. inr (first_longer x y (standing_from d.items ks a) (standing_from d.items ks b) (length ks) other le here)) (λ there. inl there) before
+                | inr lt ↦ inr (still_longer x y (standing_from d.items ks a) (standing_from d.items ks b) (length ks) other le lt)
+              ]
+
+  used_stands_longer : (order : List ℕ) → IsOrder d.items order → standing_from d.items order a < standing_from d.items order b
+  used_stands_longer order is =
+      let user = usage.user in
+      let named : is_replaced (item_named d.items a) ≡ true = ap is_replaced usage.found ∙ user_replaced user b usage.used in
+      elim (used_in_front [] order is.behind (in_order d.items order is a named)) [ inl none ↦ absurd (true≢false (sym none)) | inr lt ↦ lt ]
+
+reached_stands_longer : (d : Desc) (order : List ℕ) → duplicates d ≡ [] → IsOrder d.items order → {a b : Text} → Reaches d.items a b → standing_from d.items order a < standing_from d.items order b
+reached_stands_longer d order distinct is {a} {b} (directly usage) = used_stands_longer d distinct a b usage order is
+reached_stands_longer d order distinct is {a} {b} (through {b = middle} usage way) =
+    let first = used_stands_longer d distinct a middle usage order is in
+    let rest = reached_stands_longer d order distinct is way in
+    omega arith
+
+-- where there is an order nothing uses itself
+pub none_reaches_itself : (d : Desc) (order : List ℕ) (a : Text) → duplicates d ≡ [] → IsOrder d.items order → Reaches d.items a a → ⊥
+none_reaches_itself d order a distinct is way = let longer = reached_stands_longer d order distinct is way in omega arith
+
+pub order_or_cycle : (d : Desc) (order : List ℕ) (at : ℕ) → duplicates d ≡ [] → IsOrder d.items order → IsFirstCyclic d.items at → ⊥
+order_or_cycle d order at distinct is (front, item, behind, name, split, none, named, place, way) = none_reaches_itself d order name.text distinct is way
+
+-- two items that use themselves, with none in front, are one
+same_first : (all front behind other_front other_behind : List Item) (item other : Item) → front ++ item ∷ behind ≡ other_front ++ other ∷ other_behind → NoneIsCyclic all front → NoneIsCyclic all other_front → IsCyclic all item → IsCyclic all other → item ≡ other
+same_first all [] behind [] other_behind item other e none other_none cyclic other_cyclic = cc
+same_first all [] behind (x ∷ xs) other_behind item other e none other_none cyclic other_cyclic =
+    let same : item ≡ x = cc in
+    absurd (other_none.0 (subst (IsCyclic all) same cyclic))
+same_first all (x ∷ xs) behind [] other_behind item other e none other_none cyclic other_cyclic =
+    let same : other ≡ x = cc in
+    absurd (none.0 (subst (IsCyclic all) same other_cyclic))
+same_first all (x ∷ xs) behind (y ∷ ys) other_behind item other e none other_none cyclic other_cyclic =
+    let more : xs ++ item ∷ behind ≡ ys ++ other ∷ other_behind = cc in
+    same_first all xs behind ys other_behind item other more none.1 other_none.1 cyclic other_cyclic
+
+pub one_first_cyclic : (all : List Item) (a b : ℕ) → IsFirstCyclic all a → IsFirstCyclic all b → a ≡ b
+one_first_cyclic all a b (front, item, behind, name, split, none, named, place, way) (other_front, other, other_behind, other_name, other_split, other_none, other_named, other_place, other_way) =
+    let same : item ≡ other = same_first all front behind other_front other_behind item other (sym split ∙ other_split) none other_none (name, named, way) (other_name, other_named, other_way) in
+    let names : Some name ≡ Some other_name = sym named ∙ ap replaced_name same ∙ other_named in
+    let one : name ≡ other_name = cc in
+    place ∙ ap (λ (n : Name). n.at) one ∙ sym other_place

@@ -1,0 +1,7 @@
+pub mod Nothing
+pub mod Ordered
+pub mod Cycles
+pub mod OneWorth
+pub mod OneCount
+pub mod OneFault
+pub mod OneAnswer
