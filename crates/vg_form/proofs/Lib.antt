@@ -1,0 +1,4 @@
+pub mod FormTyping
+pub mod FormWrites
+pub mod ShapeLemmas
+pub mod PairLemmas

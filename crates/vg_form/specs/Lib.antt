@@ -1,0 +1,5 @@
+pub mod Form
+pub mod Shape
+pub mod Description
+pub mod Finding
+pub mod Declaration
