@@ -114,6 +114,29 @@ fn failing(piece: usize, failing_load: Option<u64>, failing_put: Option<u64>) ->
     }
 }
 
+/// Checks each proper prefix of a description up to its last brace, and counts those that are refused as out of the
+/// grammar.
+fn show_prefixes(rt: &impl Print, alloc: Global, row: &str) -> io::Result<()> {
+    let description = part(row, 2);
+    let prefixes = description.rfind('}').unwrap_or(0);
+    let mut refused: usize = 0;
+    for bytes in 0..=prefixes {
+        let (front, _) = description
+            .as_bytes()
+            .split_at(bytes.min(description.len()));
+        let outcome = run_row(alloc, row, front, CALM)?;
+        if outcome
+            .out
+            .bytes()
+            .starts_with(b"refused: description 1 Syntax at ")
+        {
+            refused = refused.saturating_add(1);
+        }
+    }
+    let all = prefixes.saturating_add(1);
+    println!(rt; "prefixes: {all}, {refused} of them refused as syntax")
+}
+
 fn show_faults(rt: &impl Print, alloc: Global, row: &str) -> io::Result<()> {
     show_world(rt, alloc, row, failing(16, None, Some(1)))?;
     show_world(rt, alloc, row, failing(0, None, None))?;
@@ -135,5 +158,6 @@ fn main(rt: HostRuntime) -> io::Result<()> {
     let first = rows.split("########\n").next().unwrap_or("");
     show_faults(&rt, alloc, first)?;
     show_padded(&rt, alloc, first, 1 << 20)?;
-    show_padded(&rt, alloc, first, (1 << 20) + 1)
+    show_padded(&rt, alloc, first, (1 << 20) + 1)?;
+    show_prefixes(&rt, alloc, first)
 }

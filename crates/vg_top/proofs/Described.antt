@@ -1,60 +1,68 @@
--- A text has a form where its tokens are read as one that meets the conditions.
-use Rattle.std.proofs.Common.{◌≡◌, ℕ, false, ◌&&◌, List, [], ◌∷◌, map, Option, Some, None, ap, sym, ◌∙◌, refl}
-use Rattle.std.specs.Prelude.{IsTrue, not, MatchOption}
-use Rattle.std.specs.List.{list_all, list_any}
-use Rattle.std.proofs.lemmas.Bool.{and_parts, and_from, both_ways}
-use Rattle.std.proofs.lemmas.Option.{none-some, same_Some}
+-- From the answers of the readers to what is said of a text.
+use Rattle.std.proofs.Common.{◌≡◌, ◌⊎◌, inl, inr, ℕ, List, refl, subst}
 use Rattle.vg_tok.specs.declared.token.Token.{Token}
-use Rattle.vg_tok.specs.Lexing.{Lexes}
-use Rattle.vg_top.specs.declared.form.Form.{Form}
-use Rattle.vg_top.specs.declared.form.Pair.{Pair}
-use Rattle.vg_top.specs.Form.{fits_fields}
-use Rattle.vg_top.specs.Description.{IsForm, is_form, is_ascii, is_binary, has_name, taken_names, are_apart, are_distinct}
-use Rattle.vg_top.specs.Reading.{IsFormOf, form_at, kinds, is_right}
-use Rattle.vg_text.specs.Piece.{lacks}
-use Rattle.vg_top.proofs.Spelled.{form_takes, form_again}
+use Rattle.vg_tok.specs.declared.fault.TokFault.{TokFault}
+use Rattle.vg_tok.specs.declared.fault.TokFault.TheVariants as token_faults
+use Rattle.vg_tok.specs.Lexing.{Lexes, IsFault}
+use Rattle.vg_ast.specs.declared.desc.Desc.{Desc}
+use Rattle.vg_ast.specs.Description.{Reads}
+use Rattle.vg_const.specs.declared.fault.DescFault.{DescFault}
+use Rattle.vg_const.specs.declared.fault.DescFault.TheVariants as faults
+use Rattle.vg_const.specs.declared.plain.Plain.{Plain}
+use Rattle.vg_const.specs.Rules.{IsFolded, Breaks}
+use Rattle.vg_isa.specs.declared.isa.Parts.{Parts}
+use Rattle.vg_form.specs.declared.form.Form.{Form}
+use Rattle.vg_form.specs.Form.{parts_of}
+use Rattle.vg_form.specs.Description.{form_of, found}
+use Rattle.vg_top.specs.declared.description_fault.DescriptionFault.{DescriptionFault}
+use Rattle.vg_top.specs.declared.description_fault.DescriptionFault.TheVariants as why
+use Rattle.vg_top.specs.Description.{HasTree, IsDescription, IsFaultOf}
+use Rattle.vg_top.specs.Faulting.{token_fault_of, fold_fault_of, IsBuildFault}
 
-found_form : (bytes : List ℕ) (tokens : List Token) (form : Form) → IsFormOf bytes tokens form → form_at (kinds tokens) ≡ Some form
-found_form bytes tokens form h = ap form_at h.kinds ∙ form_again form h.fits
+pub has_tree : (bytes : List ℕ) (tokens : List Token) (tree : Desc) → Lexes bytes tokens → Reads tokens tree → HasTree bytes tree
+has_tree bytes tokens tree l r = record { tokens = tokens; lexes = l; reads = r }
 
--- what isn't read has no form
-pub none_read : (bytes : List ℕ) (tokens : List Token) → form_at (kinds tokens) ≡ None → (form : Form) → IsFormOf bytes tokens form → ⊥
-none_read bytes tokens none form h = none-some form (sym none ∙ found_form bytes tokens form h)
+pub token_faulty : (bytes : List ℕ) (f : TokFault) → (f ≡ token_faults.OutOfMemory) ⊎ IsFault bytes f → IsFaultOf bytes (token_fault_of f)
+token_faulty bytes (token_faults.NotUtf8 at) (inl e) = absurd (cc)
+token_faulty bytes (token_faults.NotUtf8 at) (inr h) = inl (token_faults.NotUtf8 at, h, refl)
+token_faulty bytes (token_faults.BadChar at) (inl e) = absurd (cc)
+token_faulty bytes (token_faults.BadChar at) (inr h) = inl (token_faults.BadChar at, h, refl)
+token_faulty bytes (token_faults.Wide at) (inl e) = absurd (cc)
+token_faulty bytes (token_faults.Wide at) (inr h) = inl (token_faults.Wide at, h, refl)
+token_faulty bytes token_faults.OutOfMemory h = tt
 
--- where the form that is read breaks the conditions, there is no other
-pub none_fits : (bytes : List ℕ) (tokens : List Token) (read : Form) → form_at (kinds tokens) ≡ Some read → is_form read ≡ false → (form : Form) → IsFormOf bytes tokens form → ⊥
-none_fits bytes tokens read found broken form h =
-    both_ways (is_form read) broken (ap is_form (same_Some _ _ (sym found ∙ found_form bytes tokens form h)) ∙ h.fits)
+pub fold_faulty : (bytes : List ℕ) (tree : Desc) → HasTree bytes tree → (f : DescFault) → (f ≡ faults.OutOfMemory) ⊎ Breaks tree f → IsFaultOf bytes (fold_fault_of f)
+fold_faulty bytes tree has (faults.Duplicate at) (inl e) = absurd (cc)
+fold_faulty bytes tree has (faults.Duplicate at) (inr h) = (tree, has, h)
+fold_faulty bytes tree has (faults.Unknown at) (inl e) = absurd (cc)
+fold_faulty bytes tree has (faults.Unknown at) (inr h) = (tree, has, h)
+fold_faulty bytes tree has (faults.Cyclic at) (inl e) = absurd (cc)
+fold_faulty bytes tree has (faults.Cyclic at) (inr h) = (tree, has, h)
+fold_faulty bytes tree has (faults.Overflow at) (inl e) = absurd (cc)
+fold_faulty bytes tree has (faults.Overflow at) (inr h) = (tree, has, h)
+fold_faulty bytes tree has (faults.Limit at) (inl e) = absurd (cc)
+fold_faulty bytes tree has (faults.Limit at) (inr h) = (tree, has, h)
+fold_faulty bytes tree has faults.OutOfMemory h = tt
 
-pub form_read : (bytes : List ℕ) (tokens : List Token) (form : Form) → form_at (kinds tokens) ≡ Some form → IsTrue (lacks 47 bytes) → IsTrue (lacks 39 bytes)
-    → list_any (is_binary bytes) tokens ≡ false → IsTrue (is_form form) → IsFormOf bytes tokens form
-form_read bytes tokens form found comment marks binary fits =
-    record { kinds = form_takes (kinds tokens) form found; no_comment = comment; no_marks = marks; no_binary = binary; fits = fits }
+module _ (bytes : List ℕ) (tree : Desc) (has : HasTree bytes tree) (plain : Plain) (folded : IsFolded tree plain) where
+  pub described : (form : Form) (d : Parts) → form_of plain.description ≡ found form → d ≡ parts_of form → IsDescription bytes d
+  described form d built parts = record {
+    tree = tree;
+    has_tree = has;
+    worths = plain.worths;
+    accepted = folded.accepted;
+    form = form;
+    built = subst (λ (t : Desc). form_of t ≡ found form) folded.description built;
+    parts = parts;
+  }
 
--- a text with these tokens alone has the forms that it has with them
-pub form_with : (bytes : List ℕ) (tokens : List Token) → Lexes bytes tokens → ((ts : List Token) → Lexes bytes ts → tokens ≡ ts) → (found : Option Form)
-    → MatchOption found ((form : Form) → IsFormOf bytes tokens form → ⊥) (λ form. IsFormOf bytes tokens form)
-    → MatchOption found ((form : Form) → IsForm bytes form → ⊥) (λ form. IsForm bytes form)
-form_with bytes tokens lexes only None none = λ form h. none form (record {
-  kinds = ap (map (λ (token : Token). token.kind)) (only h.tokens h.lexes) ∙ h.kinds;
-  no_comment = h.no_comment;
-  no_marks = h.no_marks;
-  no_binary = ap (list_any (is_binary bytes)) (only h.tokens h.lexes) ∙ h.no_binary;
-  fits = h.fits;
-})
-form_with bytes tokens lexes only (Some form) h =
-    record { tokens = tokens; lexes = lexes; kinds = h.kinds; no_comment = h.no_comment; no_marks = h.no_marks; no_binary = h.no_binary; fits = h.fits }
-
-all_fit : (pairs : List Pair) → IsTrue (list_all is_right pairs) → IsTrue (list_all fits_fields pairs)
-all_fit [] h = refl
-all_fit (p ∷ ps) h =
-    let parts = and_parts (is_right p) (list_all is_right ps) h in
-    let right = and_parts (is_ascii p.name && not (has_name taken_names p.name)) (fits_fields p) parts.0 in
-    and_from (fits_fields p) (list_all fits_fields ps) right.1 (all_fit ps parts.1)
-
--- the numbers of a form fit
-pub form_fits : (form : Form) → IsTrue (is_form form) → IsTrue (list_all fits_fields form.pairs)
-form_fits form h =
-    let apart = and_parts _ (are_apart form.pairs) h in
-    let distinct = and_parts _ (are_distinct (map (λ (pair : Pair). pair.name) form.pairs)) apart.0 in
-    all_fit form.pairs (and_parts _ (list_all is_right form.pairs) distinct.0).1
+  pub build_faulty : (f : DescriptionFault) → IsBuildFault plain.description f → IsFaultOf bytes f
+  build_faulty (why.Broken rule at) h = absurd h
+  build_faulty (why.NotBuilt at) h = record {
+    tree = tree;
+    has_tree = has;
+    worths = plain.worths;
+    accepted = folded.accepted;
+    unbuilt = subst (λ (t : Desc). IsBuildFault t (why.NotBuilt at)) folded.description h;
+  }
+  build_faulty why.OutOfMemory h = tt

@@ -1,10 +1,12 @@
 -- How an answer goes on with a file that was loaded.
-use Rattle.std.proofs.Common.{◌≡◌, ℕ, ◌≤◌, List, [], ◌∷◌, ◌++◌, length, nat_lt, false, Option, Some, None, IfSome, Result, Vec, refl, sym, subst, ap, ◌∙◌, append_assoc, arith}
+use Rattle.std.proofs.Common.{inl, inr, Ok, Err, ◌≡◌, ℕ, ◌≤◌, List, [], ◌∷◌, ◌++◌, length, nat_lt, false, Option, Some, None, IfSome, Result, Vec, refl, sym, subst, ap, ◌∙◌, append_assoc, arith}
 use Rattle.std.specs.declared.alloc.Global.{Global}
 use Rattle.std.proofs.lemmas.Bool.Decides.{nat_tests}
 use Rattle.std.proofs.lemmas.List.{append-nil}
 use Rattle.vg_top.specs.declared.status.Status.{Status}
-use Rattle.vg_top.specs.Answers.{Held, Answer, WithFile}
+use Rattle.vg_isa.specs.declared.isa.Parts.{Parts}
+use Rattle.vg_top.specs.Answers.{Held, Answer, WithFile, WithDescription, RefusesDescription}
+use Rattle.vg_top.specs.Description.{IsDescription}
 use Rattle.vg_top.specs.Loading.{IsWithin}
 use Rattle.vg_top.specs.Answering.{AnswersLoads}
 use Rattle.vg_top.specs.declared.answer.Answer as answer
@@ -39,3 +41,13 @@ hands_on told later name limit before middle now loaded bytes next result same i
     (subst (λ (t : Option Held). IfSome t (λ held. (more : List (List ℕ)) × (now ≡ middle ++ more) × next held loaded.items more a.status a.text.items)) same
     (subst (λ (b : List ℕ). IfSome later (λ held. (more : List (List ℕ)) × (now ≡ middle ++ more) × next held b more a.status a.text.items)) is k)))
     h
+
+-- the text of a description was read, and the answer goes on with what it describes
+pub described_on : (told : Option Held) (before now : List (List ℕ)) (bytes : List ℕ) (d : Parts) (next : Held → Parts → Answer) (result : Result answer.Answer Fault) → IsDescription bytes d → AnswersLoads told before now result (λ held. next held d) → AnswersLoads told before now result (λ held. WithDescription bytes (next held))
+described_on told before now bytes d next (Err fault) is h = tt
+described_on None before now bytes d next (Ok a) is h = tt
+described_on (Some held) before now bytes d next (Ok a) is h = (h.0, h.1, inl (d, is, h.2))
+
+-- the text was refused
+pub refused_on : (bytes : List ℕ) (next : Parts → Answer) (status : Status) (text : List ℕ) → RefusesDescription bytes [] status text → WithDescription bytes next [] status text
+refused_on bytes next status text h = inr h

@@ -1,11 +1,10 @@
 pub mod Files
-pub mod FormTyping
-pub mod FormWrites
 pub mod Writing
 pub mod Digits
 pub mod RegisterLines
 pub mod NoMemory
 pub mod RunReport
 pub mod Reporting
-pub mod Spelled
 pub mod Described
+pub mod OneDescription
+pub mod Positions

@@ -23,6 +23,15 @@ pub asks_behind : (name : List ℕ) (names before middle now : List (List ℕ)) 
 asks_behind name names before middle now result here h =
     (suc h.0, omega (arith, h.1), h.2 ∙ (ap (λ m. m ++ take h.0 names) here ∙ append_assoc before (name ∷ []) (take h.0 names)), asks_one_more h.0 (length names) result h.3)
 
+asks_fewer : (n all : ℕ) (result : Result answer.Answer Fault) → AsksSo 1 all n result → AsksSo 0 all n result
+asks_fewer n all (Ok a) h = (omega arith, h.1)
+asks_fewer n all (Err fault.Read) h = h
+asks_fewer n all (Err fault.OutOfMemory) h = tt
+
+-- at least one name, so at least none
+pub asks_weaker : (names before now : List (List ℕ)) (result : Result answer.Answer Fault) → AsksNames 1 names before now result → AsksNames 0 names before now result
+asks_weaker names before now result h = (h.0, h.1, h.2, asks_fewer h.0 (length names) result h.3)
+
 -- ---- statuses
 
 -- an answer's status is none of a fault or want of memory

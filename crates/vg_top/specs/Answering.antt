@@ -7,7 +7,7 @@ use Rattle.vg_top.specs.declared.fault.Fault.{Fault}
 use Rattle.vg_top.specs.declared.fault.Fault.TheVariants as fault
 use Rattle.vg_top.specs.declared.status.Status.{Status}
 use Rattle.vg_top.specs.declared.status.Status.TheVariants as status
-use Rattle.vg_top.specs.Command.{Command, Run}
+use Rattle.vg_top.specs.Command.{Command, Check, Run}
 use Rattle.vg_top.specs.Answers.{Held, Answers}
 use Rattle.vg_top.specs.Answers as answers
 
@@ -19,6 +19,7 @@ AnswersLoads told before now result right =
 -- the files that a command names, in the order of its words
 abbrev pub names_of : Option Command → List (List ℕ)
 names_of None = []
+names_of (Some (Check description)) = description ∷ []
 names_of (Some (Run description image bound)) = description ∷ image ∷ []
 
 -- how many of the names are asked for: at least so many, all where no file is refused, and one where a load

@@ -7,11 +7,13 @@ use Rattle.vg_image.specs.State.{first_state}
 use Rattle.vg_image.specs.Run.{Stand, IsRun}
 use Rattle.vg_image.specs.Reading.{IsSpelled, IsNoImage, has_unbuilt_line}
 use Rattle.vg_top.specs.declared.status.Status.{Status}
-use Rattle.vg_top.specs.declared.status.Status.TheVariants.{Refused, Usage}
-use Rattle.vg_top.specs.Command.{Command, Run, command_of}
-use Rattle.vg_top.specs.Description.{IsDescription, IsNoDescription}
-use Rattle.vg_top.specs.Refusal.{too_long, not_built, image_refused, usage_line}
-use Rattle.vg_top.specs.Report.{run_report, run_status}
+use Rattle.vg_top.specs.declared.status.Status.TheVariants.{Done, Refused, Usage}
+use Rattle.vg_top.specs.declared.rule.Rule.{Rule}
+use Rattle.vg_top.specs.Command.{Command, Check, Run, command_of}
+use Rattle.vg_top.specs.Description.{IsDescription, IsBroken, IsUnbuilt}
+use Rattle.vg_top.specs.Position.{position}
+use Rattle.vg_top.specs.Refusal.{too_long, rule_broken, not_built, image_refused, usage_line}
+use Rattle.vg_top.specs.Report.{check_report, run_report, run_status}
 
 -- the files by name
 abbrev pub Held : Type 0
@@ -36,15 +38,21 @@ WithFile name limit (Some bytes) next asked status text =
     (more : List (List ℕ)) × (asked ≡ name ∷ more)
     × MatchBool (nat_lt limit (length bytes)) (Refuses (too_long name) more status text) (next bytes more status text)
 
--- a description is read, or refused at some place
+-- the refusal of a text that breaks a rule of descriptions, by the first that it breaks; or, where it keeps them all, of
+-- what isn't built yet
+abbrev pub RefusesDescription : List ℕ → Answer
+RefusesDescription bytes asked status text =
+    ((rule : Rule) × (at : ℕ) × IsBroken bytes rule at × Refuses (rule_broken rule (position bytes at)) asked status text)
+    ⊎ ((at : ℕ) × IsUnbuilt bytes at × Refuses (not_built (position bytes at)) asked status text)
+
+-- a description is read, or refused at its first fault
 abbrev pub WithDescription : List ℕ → (Parts → Answer) → Answer
 WithDescription bytes next asked status text =
-    ((d : Parts) × IsDescription bytes d × next d asked status text)
-    ⊎ (IsNoDescription bytes × ((line column : ℕ) × Refuses (not_built line column) asked status text))
+    ((d : Parts) × IsDescription bytes d × next d asked status text) ⊎ RefusesDescription bytes asked status text
 
 -- why a text that is no image is refused, at some line
 abbrev pub image_refusal : List ℕ → ℕ → List ℕ
-image_refusal bytes line = if has_unbuilt_line bytes then not_built line 1 else image_refused line
+image_refusal bytes line = if has_unbuilt_line bytes then not_built (line, 1) else image_refused line
 
 -- an image is read, or refused at some line
 abbrev pub WithImage : Parts → List ℕ → (Image → Answer) → Answer
@@ -77,8 +85,16 @@ DescriptionAnswers held image bound bytes = WithDescription bytes (λ d. ImageAn
 abbrev pub RunAnswers : Held → List ℕ → List ℕ → ℕ → Answer
 RunAnswers held description image bound = WithFile description description_limit (held description) (DescriptionAnswers held image bound)
 
+-- `check`: the name of the architecture, and how many instructions it has
+abbrev pub CheckTextAnswers : List ℕ → Answer
+CheckTextAnswers bytes = WithDescription bytes (λ d. Only Done (check_report d))
+
+abbrev pub CheckAnswers : Held → List ℕ → Answer
+CheckAnswers held description = WithFile description description_limit (held description) CheckTextAnswers
+
 abbrev pub CommandAnswers : Held → Option Command → Answer
 CommandAnswers held None = Only Usage usage_line
+CommandAnswers held (Some (Check description)) = CheckAnswers held description
 CommandAnswers held (Some (Run description image bound)) = RunAnswers held description image bound
 
 -- This status and this whole text answer these words, and these files are asked for.

@@ -5,6 +5,8 @@ use Rattle.std.specs.Str.{bytes_eq}
 use Rattle.vg_text.specs.Number.{decimal_of}
 
 pub data Command : Type 0 where
+  -- checks a description
+  Check : (description : List ℕ) → Command
   -- runs an image for at most so many instructions
   Run : (description image : List ℕ) (bound : ℕ) → Command
 
@@ -21,7 +23,12 @@ abbrev pub command_of_four : List ℕ → List ℕ → List ℕ → List ℕ →
 command_of_four name a b c =
     if bytes_eq name (codes "run") then option_map (Run a b) (number_up_to most_steps c) else None
 
+-- a command by its first word, and the one word behind it
+abbrev pub command_of_two : List ℕ → List ℕ → Option Command
+command_of_two name a = if bytes_eq name (codes "check") then Some (Check a) else None
+
 -- the command of a list of words; None where they are in no form
 abbrev pub command_of : List (List ℕ) → Option Command
+command_of (name ∷ a ∷ []) = command_of_two name a
 command_of (name ∷ a ∷ b ∷ c ∷ []) = command_of_four name a b c
 command_of _ = None

@@ -1,11 +1,12 @@
 pub mod Answers
 pub mod Command
 pub mod Description
-pub mod Form
 pub mod Refusal
 pub mod RegisterLines
 pub mod Report
 pub mod Words
 pub mod Loading
 pub mod Answering
-pub mod Reading
+pub mod Rule
+pub mod Position
+pub mod Faulting

@@ -92,3 +92,9 @@ run_report d i r = run_word r.ending ++ codes " after " ++ decimal r.done ++ 10 
 -- the state with this program counter and these registers, where nothing is stored
 abbrev pub state_at : ℕ → List (List ℕ) → State
 state_at pc registers = record { pc = pc; registers = registers; bytes = empty }
+
+-- ---- the report of a check
+
+-- the name of the architecture, and the number of its instructions
+abbrev pub check_report : Parts → List ℕ
+check_report d = codes "ok " ++ d.name ++ codes " " ++ decimal (length d.instrs) ++ 10 ∷ []

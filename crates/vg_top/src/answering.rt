@@ -1,17 +1,21 @@
-ghost use Rattle.std.specs.Prelude.{◌≡◌, ◌≤◌, ◌<◌, [], ◌∷◌, IfOk, IfSome, IsErrOf, IsTrue, None, Some, length, map, min};
+ghost use Rattle.std.specs.Prelude.{◌≡◌, ◌≤◌, ◌<◌, ◌^◌, [], ◌∷◌, IfOk, IfSome, IsErrOf, IsTrue, None, Some, length, map, min};
 ghost use Rattle.vg_io.specs.Count.{Rose};
 ghost use Rattle.vg_iss.specs.Kept.{is_memory_free};
 ghost use Rattle.vg_top.specs.Refusal.{usage_line as usage};
 ghost use Rattle.vg_top.specs.Answering.{AnswersLoads, AsksNames, IsOfFiles, IsWhole, names_of};
-ghost use Rattle.vg_top.specs.Answers.{Answers, CommandAnswers, ImageAnswers, ImageTextAnswers, DescriptionAnswers, RunAnswers, Reports};
+ghost use Rattle.vg_top.specs.Answers.{Answers, CommandAnswers, CheckAnswers, CheckTextAnswers, RefusesDescription, ImageAnswers, ImageTextAnswers, DescriptionAnswers, RunAnswers, Reports};
+ghost use Rattle.vg_top.specs.Description.{IsFaultOf};
 ghost use Rattle.vg_top.specs.Words.{word_bytes, asked_of};
 
 use crate::answer::Answer;
 use crate::command::Command;
 use crate::description::description_of;
+use crate::description_fault::DescriptionFault;
 use crate::fault::Fault;
 use crate::loading::load_within;
-use crate::refusal::{image_refused, not_built, too_long, usage_line};
+use crate::position::position;
+use crate::refusal::{image_refused, not_built, rule_broken, too_long, usage_line};
+use crate::report::push_check_report;
 use crate::running::run_answer;
 use crate::status::Status;
 use crate::words::command_of;
@@ -40,7 +44,7 @@ fn image_text_answer(
     match read(alloc, isa, text) {
         Ok(image) => run_answer(alloc, isa, &image, bound),
         Err(ImageFault::Line { line }) => Ok(refused(image_refused(alloc, line as u64)?)),
-        Err(ImageFault::NotBuilt { line }) => Ok(refused(not_built(alloc, line as u64, 1)?)),
+        Err(ImageFault::NotBuilt { line }) => Ok(refused(not_built(alloc, (line as u64, 1))?)),
         Err(ImageFault::OutOfMemory) => Err(AllocError),
     }
 }
@@ -78,6 +82,61 @@ fn image_answer<F: Files>(
     }
 }
 
+/// The answer to a text that is no description that is built.
+fn description_refused(
+    alloc: Global,
+    text: &[u8],
+    fault: DescriptionFault,
+) -> Result<Answer, AllocError>
+    requires within { length text.now < 2 ^ 32 }
+    requires fault { IsFaultOf text.now fault }
+    ensures right { IfOk result (λ answer. RefusesDescription text.now [] answer.status answer.text.items) }
+    ensures whole { IfOk result (λ answer. IsOfFiles answer.status) }
+{
+    match fault {
+        DescriptionFault::Broken { rule, at } => {
+            Ok(refused(rule_broken(alloc, rule, position(text, at))?))
+        }
+        DescriptionFault::NotBuilt { at } => Ok(refused(not_built(alloc, position(text, at))?)),
+        DescriptionFault::OutOfMemory => Err(AllocError),
+    }
+}
+
+/// The answer of `check` to the text of a description.
+fn check_text_answer(alloc: Global, text: &[u8]) -> Result<Answer, AllocError>
+    requires { length text.now < 2 ^ 32 }
+    ensures right { IfOk result (λ answer. CheckTextAnswers text.now [] answer.status answer.text.items) }
+    ensures whole { IfOk result (λ answer. IsOfFiles answer.status) }
+{
+    match description_of(alloc, text) {
+        Ok(isa) => {
+            let mut report = Vec::new(alloc);
+            push_check_report(&mut report, &isa)?;
+            Ok(Answer {
+                status: Status::Done,
+                text: report,
+            })
+        }
+        Err(fault) => description_refused(alloc, text, fault),
+    }
+}
+
+/// The answer of `check`.
+fn check_command<F: Files>(alloc: Global, files: &mut F, description: &str) -> Result<Answer, Fault>
+    ensures told { AnswersLoads (F.held files.old) (F.asked files.old) (F.asked files.new) result (λ held. CheckAnswers held description.now) }
+    ensures read { IsErrOf result Fault.Read → Rose (F.faults files.old) (F.faults files.new) }
+    ensures kept_faults { F.faults files.old ≤ F.faults files.new }
+    ensures asked { AsksNames 1 (description.now ∷ []) (F.asked files.old) (F.asked files.new) result }
+    ensures whole { IfOk result (λ answer. IsOfFiles answer.status) }
+    ensures same { F.held files.new ≡ F.held files.old }
+{
+    let loaded = load_within(alloc, files, description, DESCRIPTION_LIMIT)?;
+    match loaded {
+        None => Ok(refused(too_long(alloc, description)?)),
+        Some(text) => Ok(check_text_answer(alloc, text.as_slice())?),
+    }
+}
+
 /// The answer of `run` to the text of a description.
 fn description_answer<F: Files>(
     alloc: Global,
@@ -86,6 +145,7 @@ fn description_answer<F: Files>(
     image: &str,
     bound: u64,
 ) -> Result<Answer, Fault>
+    requires { length text.now < 2 ^ 32 }
     ensures told { AnswersLoads (F.held files.old) (F.asked files.old) (F.asked files.new) result (λ held. DescriptionAnswers held image.now bound text.now) }
     ensures read { IsErrOf result Fault.Read → Rose (F.faults files.old) (F.faults files.new) }
     ensures kept_faults { F.faults files.old ≤ F.faults files.new }
@@ -93,9 +153,9 @@ fn description_answer<F: Files>(
     ensures whole { IfOk result (λ answer. IsOfFiles answer.status) }
     ensures same { F.held files.new ≡ F.held files.old }
 {
-    match description_of(alloc, text)? {
-        None => Ok(refused(not_built(alloc, 1, 1)?)),
-        Some(isa) => image_answer(alloc, files, &isa, image, bound),
+    match description_of(alloc, text) {
+        Ok(isa) => image_answer(alloc, files, &isa, image, bound),
+        Err(fault) => Ok(description_refused(alloc, text, fault)?),
     }
 }
 
@@ -139,6 +199,7 @@ pub(crate) fn command_answer<F: Files>(
             status: Status::Usage,
             text: usage_line(alloc)?,
         }),
+        Command::Check { description } => check_command(alloc, files, description),
         Command::Run {
             description,
             image,

@@ -1,115 +1,122 @@
-ghost use Rattle.std.specs.Prelude.{◌≡◌, ◌+◌, ◌&&◌, nat_lt, nat_eq, slice_index, List, IfOk, MatchOption};
-ghost use Rattle.std.specs.List.{list_any};
-ghost use Rattle.vg_text.specs.Piece.{lacks};
+ghost use Rattle.std.specs.Prelude.{◌≡◌, ◌⊎◌, ℕ, List, IfOk, IfErr, IsTrue};
 ghost use Rattle.vg_tok.specs.Lexing.{Lexes};
-ghost use Rattle.vg_top.specs.Description.{IsDescription, IsForm, IsNoDescription, is_binary};
-ghost use Rattle.vg_top.specs.Reading.{IsFormOf};
+ghost use Rattle.vg_ast.specs.Description.{Reads};
+ghost use Rattle.vg_iss.specs.Kept.{is_memory_free};
+ghost use Rattle.vg_const.specs.Rules.{IsFolded};
+ghost use Rattle.vg_form.specs.declared.form.Form.{Form};
+ghost use Rattle.vg_form.specs.Form.{parts_of};
+ghost use Rattle.vg_form.specs.Description.{form_of, found};
+ghost use Rattle.vg_top.specs.Description.{HasTree, IsDescription, IsFaultOf};
+ghost use Rattle.vg_top.specs.Faulting.{token_fault_of, fold_fault_of, IsBuildFault};
 
-use crate::build::isa_of;
-use crate::conditions::is_form;
-use crate::form::Form;
-use crate::reading::form_at;
+use crate::description_fault::DescriptionFault;
+use crate::rule::Rule;
 use sqlite_items::Items;
-use std::alloc::{AllocError, Global};
+use std::alloc::Global;
+use vg_ast::Desc;
+use vg_const::{DescFault, Plain, fold};
+use vg_form::{FormFault, isa_of};
 use vg_isa::Isa;
-use vg_tok::{Kind, TokFault, Token, tokens};
+use vg_parse::{ParseFault, parse};
+use vg_tok::{TokFault, Token, tokens};
 
-/// Whether no byte of the text is this one.
-fn lacks(byte: u8, text: &[u8]) -> bool
-    ensures { result ≡ lacks byte text.now }
+fn broken(rule: Rule, at: usize) -> DescriptionFault
+    ensures { result ≡ DescriptionFault.Broken rule at }
 {
-    let mut rest = text;
-    while let Some((c, others)) = rest.split_first() {
-        if *c == byte {
-            return false;
-        }
-        rest = others;
-    }
-    true
+    DescriptionFault::Broken { rule, at }
 }
 
-/// Whether the token is a number whose second byte is `b`.
-fn is_binary(text: &[u8], token: &Token) -> bool
-    ensures { result ≡ is_binary text.now token.now }
+fn token_fault(fault: TokFault) -> DescriptionFault
+    ensures { result ≡ token_fault_of fault }
 {
-    match token.kind {
-        Kind::Number(_) => second_is_b(text, token.start, token.end),
-        _ => false,
+    match fault {
+        TokFault::NotUtf8 { at } | TokFault::BadChar { at } | TokFault::Wide { at } => broken(
+            Rule::Syntax,
+            at,
+        ),
+        TokFault::OutOfMemory => DescriptionFault::OutOfMemory,
     }
 }
 
-fn second_is_b(text: &[u8], start: usize, end: usize) -> bool
-    ensures { result ≡ (nat_lt (start + 1) end && nat_eq (slice_index text.now (start + 1)) 98) }
+fn fold_fault(fault: DescFault) -> DescriptionFault
+    ensures { result ≡ fold_fault_of fault }
 {
-    if end <= start {
-        return false;
+    match fault {
+        DescFault::Duplicate { at } => broken(Rule::Duplicate, at),
+        DescFault::Unknown { at } => broken(Rule::Unknown, at),
+        DescFault::Cyclic { at } => broken(Rule::Cyclic, at),
+        DescFault::Overflow { at } => broken(Rule::Overflow, at),
+        DescFault::Limit { at } => broken(Rule::Limit, at),
+        DescFault::OutOfMemory => DescriptionFault::OutOfMemory,
     }
-    let second = start + 1;
-    if end <= second {
-        return false;
-    }
-    second < text.len() && text[second] == b'b'
 }
 
-fn has_binary(text: &[u8], tokens: &[Token]) -> bool
-    ensures { result ≡ list_any (is_binary text.now) tokens.now }
-{
-    tokens.iter().any(|token| is_binary(text, token))
-}
-
-/// The tokens of a text, if it has any reading as tokens.
-fn tokens_of(alloc: Global, text: &[u8]) -> Result<Option<Items<Token>>, AllocError>
-    ensures { IfOk result (λ found. MatchOption found ((ts : List Token) → Lexes text.now ts → ⊥)
-        (λ tokens. Lexes text.now tokens × ((ts : List Token) → Lexes text.now ts → tokens ≡ ts))) }
+/// The tokens of a text.
+#[tactic(auto, using(crate::proofs::Described::token_faulty))]
+fn tokens_of(alloc: Global, text: &[u8]) -> Result<Items<Token>, DescriptionFault>
+    ensures tokens { IfOk result (λ tokens. Lexes text.now tokens) }
+    ensures fault { IfErr result (λ fault. IsFaultOf text.now fault) }
 {
     match tokens(alloc, text) {
-        Ok(tokens) => Ok(Some(tokens)),
-        Err(fault) => match fault {
-            TokFault::OutOfMemory => Err(AllocError),
-            _ => Ok(None),
-        },
+        Ok(tokens) => Ok(tokens),
+        Err(fault) => Err(token_fault(fault)),
     }
 }
 
-/// The form that a text of these tokens has.
-fn form_of(alloc: Global, text: &[u8], tokens: &[Token]) -> Result<Option<Form>, AllocError>
-    ensures { IfOk result (λ found. MatchOption found ((form : Form) → IsFormOf text.now tokens.now form → ⊥)
-        (λ form. IsFormOf text.now tokens.now form)) }
+/// The tree of the tokens of a text.
+fn tree_of_tokens(alloc: Global, tokens: &[Token]) -> Result<Desc, DescriptionFault>
+    ensures tree { IfOk result (λ tree. Reads tokens.now tree) }
+    ensures fault { IfErr result (λ fault. (bytes : List ℕ) → Lexes bytes tokens.now → IsFaultOf bytes fault) }
 {
-    if !lacks(b'/', text) {
-        return Ok(None);
+    match parse(alloc, tokens) {
+        Ok(tree) => Ok(tree),
+        Err(ParseFault::Syntax { at }) => Err(broken(Rule::Syntax, at)),
+        Err(ParseFault::OutOfMemory) => Err(DescriptionFault::OutOfMemory),
     }
-    if !lacks(b'\'', text) {
-        return Ok(None);
-    }
-    if has_binary(text, tokens) {
-        return Ok(None);
-    }
-    let Some(form) = form_at(alloc, tokens)? else {
-        return Ok(None);
-    };
-    if !is_form(&form) {
-        return Ok(None);
-    }
-    Ok(Some(form))
 }
 
-/// The form that a text has.
-fn form_in(alloc: Global, text: &[u8]) -> Result<Option<Form>, AllocError>
-    ensures { IfOk result (λ found. MatchOption found ((form : Form) → IsForm text.now form → ⊥) (λ form. IsForm text.now form)) }
+/// The tree of a text.
+#[tactic(auto, using(crate::proofs::Described::has_tree))]
+fn tree_of(alloc: Global, text: &[u8]) -> Result<Desc, DescriptionFault>
+    ensures tree { IfOk result (λ tree. HasTree text.now tree) }
+    ensures fault { IfErr result (λ fault. IsFaultOf text.now fault) }
 {
-    let Some(tokens) = tokens_of(alloc, text)? else {
-        return Ok(None);
-    };
-    form_of(alloc, text, tokens.as_slice())
+    let tokens = tokens_of(alloc, text)?;
+    tree_of_tokens(alloc, tokens.as_slice())
 }
 
-/// The description that a text spells; None where it spells none that is read so far.
-pub(crate) fn description_of(alloc: Global, text: &[u8]) -> Result<Option<Isa>, AllocError>
-    ensures { IfOk result (λ found. MatchOption found (IsNoDescription text.now) (λ isa. IsDescription text.now isa)) }
+/// The folded description of a tree.
+fn folded(alloc: Global, tree: Desc) -> Result<Plain, DescriptionFault>
+    ensures plain { IfOk result (λ plain. IsFolded tree plain) }
+    ensures fault { IfErr result (λ fault. (bytes : List ℕ) → HasTree bytes tree → IsFaultOf bytes fault) }
 {
-    let Some(form) = form_in(alloc, text)? else {
-        return Ok(None);
-    };
-    Ok(Some(isa_of(alloc, &form)?))
+    match fold(alloc, tree) {
+        Ok(plain) => Ok(plain),
+        Err(fault) => Err(fold_fault(fault)),
+    }
+}
+
+/// The processor of a folded description.
+fn built(alloc: Global, plain: &Plain) -> Result<Isa, DescriptionFault>
+    ensures isa { IfOk result (λ isa. (form : Form) × (form_of plain.now.description ≡ found form) × (isa ≡ parts_of form)) }
+    ensures memory_free { IfOk result (λ isa. IsTrue (is_memory_free isa)) }
+    ensures fault { IfErr result (λ fault. IsBuildFault plain.now.description fault) }
+{
+    match isa_of(alloc, &plain.description) {
+        Ok(isa) => Ok(isa),
+        Err(FormFault::Unlike { at }) => Err(DescriptionFault::NotBuilt { at }),
+        Err(FormFault::OutOfMemory) => Err(DescriptionFault::OutOfMemory),
+    }
+}
+
+/// The processor that a text describes, or why there is none.
+#[tactic(auto, using(crate::proofs::Described::described, crate::proofs::Described::build_faulty))]
+pub(crate) fn description_of(alloc: Global, text: &[u8]) -> Result<Isa, DescriptionFault>
+    ensures isa { IfOk result (λ isa. IsDescription text.now isa) }
+    ensures memory_free { IfOk result (λ isa. IsTrue (is_memory_free isa)) }
+    ensures fault { IfErr result (λ fault. IsFaultOf text.now fault) }
+{
+    let tree = tree_of(alloc, text)?;
+    let plain = folded(alloc, tree)?;
+    built(alloc, &plain)
 }

@@ -15,6 +15,7 @@ pub(crate) fn load_within<F: Files>(
 ) -> Result<Option<Vec<u8>>, Fault>
     requires { limit < 2 ^ 32 }
     ensures told { IfOk result (λ loaded. IfSome (F.held files.old) (λ held. IsWithin (held name.now) limit loaded)) }
+    ensures within { IfOk result (λ loaded. IfSome loaded (λ text. length text.items ≤ limit)) }
     ensures read { IsErrOf result Fault.Read → Rose (F.faults files.old) (F.faults files.new) }
     ensures kept_faults { F.faults files.old ≤ F.faults files.new }
     ensures asked { AsksFor result name.now (F.asked files.old) (F.asked files.new) }

@@ -1,7 +1,8 @@
 //! The lines of refusals and the line of usage, each whole.
-ghost use Rattle.std.specs.Prelude.{◌≡◌, IfOk};
+ghost use Rattle.std.specs.Prelude.{◌≡◌, ◌++◌, IfOk, OnOk};
 ghost use Rattle.vg_top.specs.Refusal as Lines;
 
+use crate::rule::Rule;
 use std::alloc::{AllocError, Global};
 use vg_text::number::push_decimal;
 use vg_text::piece::push_bytes;
@@ -17,15 +18,37 @@ pub(crate) fn too_long(alloc: Global, name: &str) -> Result<Vec<u8>, AllocError>
     Ok(line)
 }
 
-/// A construct at this line and column, both from 1, isn't built yet.
-pub(crate) fn not_built(alloc: Global, line: u64, column: u64) -> Result<Vec<u8>, AllocError>
-    ensures { IfOk result (λ text. text.items ≡ Lines.not_built line column) }
+/// Appends a line and a column, both from 1.
+fn push_place(text: &mut Vec<u8>, at: (u64, u64)) -> Result<(), AllocError>
+    ensures { OnOk result (text.new.items ≡ text.old.items ++ Lines.place at) }
+{
+    push_decimal(text, at.0)?;
+    push_bytes(text, b":")?;
+    push_decimal(text, at.1)
+}
+
+/// A rule of descriptions is broken at this line and column.
+pub(crate) fn rule_broken(alloc: Global, rule: Rule, at: (u64, u64)) -> Result<Vec<u8>, AllocError>
+    ensures { IfOk result (λ text. text.items ≡ Lines.rule_broken rule at) }
+{
+    let mut text = Vec::new(alloc);
+    push_bytes(&mut text, b"refused: description ")?;
+    push_decimal(&mut text, rule.number())?;
+    push_bytes(&mut text, b" ")?;
+    push_bytes(&mut text, rule.name())?;
+    push_bytes(&mut text, b" at ")?;
+    push_place(&mut text, at)?;
+    push_bytes(&mut text, b"\n")?;
+    Ok(text)
+}
+
+/// A construct at this line and column isn't built yet.
+pub(crate) fn not_built(alloc: Global, at: (u64, u64)) -> Result<Vec<u8>, AllocError>
+    ensures { IfOk result (λ text. text.items ≡ Lines.not_built at) }
 {
     let mut text = Vec::new(alloc);
     push_bytes(&mut text, b"refused: not built at ")?;
-    push_decimal(&mut text, line)?;
-    push_bytes(&mut text, b":")?;
-    push_decimal(&mut text, column)?;
+    push_place(&mut text, at)?;
     push_bytes(&mut text, b"\n")?;
     Ok(text)
 }

@@ -1,4 +1,4 @@
-//! The report of a run: how it stands, and then the state.
+//! The report of a check; and that of a run: how it stands, and then the state.
 ghost use Rattle.std.specs.Prelude.{◌≡◌, ◌^◌, ◌<◌, ◌∷◌, ◌++◌, [], IsTrue, OnOk, codes, decimal, nat_lt};
 ghost use Rattle.std.specs.List.{list_all};
 ghost use Rattle.vg_image.specs.Spelling.{address_line};
@@ -14,6 +14,18 @@ use vg_image::{Ending, Image};
 use vg_isa::{Isa, RegDecl};
 use vg_text::number::{push_decimal, push_hexadecimal};
 use vg_text::piece::push_bytes;
+
+/// Appends the report of a check: the name of the architecture, and the number of its instructions.
+pub(crate) fn push_check_report(out: &mut Vec<u8>, isa: &Isa) -> Result<(), AllocError>
+    ensures ok { OnOk result (out.new.items ≡ out.old.items ++ Report.check_report isa.now) }
+{
+    let parts = isa.parts();
+    push_bytes(out, b"ok ")?;
+    push_bytes(out, parts.name.as_slice())?;
+    push_bytes(out, b" ")?;
+    push_decimal(out, parts.instrs.len() as u64)?;
+    push_bytes(out, b"\n")
+}
 
 /// Appends the report of a run of `image` that did `done` instructions and ended so; None where it is still
 /// running. Of each declaration `registers` has the numbers of its registers. Nothing is stored, so memory

@@ -21,6 +21,14 @@ pub(crate) fn command_of(words: &[String]) -> Command<'_>
     ensures { asked_of result ≡ command.command_of (map word_bytes words.now) }
 {
     match words {
+        [name, description] => {
+            if name.as_str() != "check" {
+                return Command::NoForm;
+            }
+            Command::Check {
+                description: description.as_str(),
+            }
+        }
         [name, description, image, bound] => {
             if name.as_str() != "run" {
                 return Command::NoForm;
