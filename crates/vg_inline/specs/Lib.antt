@@ -1,0 +1,9 @@
+pub mod InPlace
+pub mod Size
+pub mod Made
+pub mod Context
+pub mod Templates
+pub mod Effects
+pub mod Known
+pub mod Calls
+pub mod Behaviours

@@ -1,0 +1,99 @@
+ghost use Rattle.std.specs.Prelude.{◌≡◌, slice_get, map};
+ghost use Rattle.std.specs.Option.{option_map, option_copied};
+ghost use Rattle.std.specs.Str.{bytes_eq};
+ghost use Rattle.vg_ast.specs.declared.field.Field.{Field as FieldOf};
+ghost use Rattle.vg_names.specs.Definition.{fields_of_format, item_named};
+ghost use Rattle.vg_whole.specs.Whole.{inner_of};
+ghost use Rattle.vg_inline.specs.InPlace.{callee_of, field_places, parameter_places};
+ghost use Rattle.vg_inline.specs.Context.{inner_at, found_place, items_of, parameters_called};
+
+use crate::context::Context;
+use crate::found::Found;
+use crate::names::Names;
+use vg_ast::{Field, Item, Name, Parameter};
+
+fn is_named(name: &Name, text: &[char]) -> bool
+    ensures { result ≡ bytes_eq name.now.text text.now }
+{
+    name.text.as_slice() == text
+}
+
+/// The first field of a name.
+fn field_named(fields: &[Field], text: &[char]) -> Option<Found<'static>>
+    ensures { option_map found_place result ≡ inner_of (field_places 0 (map (λ (field : FieldOf). field.name.text) fields.now)) text.now }
+{
+    for (number, field) in fields.iter().enumerate() {
+        if is_named(&field.name, text) {
+            return Some(Found::Field(number));
+        }
+    }
+    None
+}
+
+/// The first parameter of a name.
+fn parameter_named(parameters: &[Parameter], text: &[char]) -> Option<Found<'static>>
+    ensures { option_map found_place result ≡ inner_of (parameter_places 0 parameters.now) text.now }
+{
+    for (number, parameter) in parameters.iter().enumerate() {
+        if is_named(&parameter.name, text) {
+            return Some(Found::Parameter(number));
+        }
+    }
+    None
+}
+
+/// The first field of a name in the format of a number.
+fn field_of(items: &[Item], format: usize, text: &[char]) -> Option<Found<'static>>
+    ensures { option_map found_place result ≡ inner_of (field_places 0 (fields_of_format (slice_get items.now format))) text.now }
+{
+    match items.get(format) {
+        Some(Item::Format { fields, .. }) => field_named(fields.as_slice(), text),
+        _ => None,
+    }
+}
+
+/// What an inner name stands for; None where a name is none of them.
+pub fn find<'a>(text: &[char], names: &Names<'a>, context: &Context) -> Option<Found<'a>>
+    ensures { option_map found_place result ≡ inner_of (inner_at context.now names.now) text.now }
+{
+    match names {
+        Names::Nothing => None,
+        Names::Fields(format) => field_of(context.table.items, *format, text),
+        Names::Parameters => parameter_named(context.parameters, text),
+        Names::Let {
+            name,
+            inlined,
+            outer,
+        } => {
+            if name.text.as_slice() == text {
+                Some(Found::Bound(*inlined))
+            } else {
+                find(text, outer, context)
+            }
+        }
+    }
+}
+
+/// The parameters of an item, where it is a function.
+fn parameters_of<'a>(item: Option<&'a Item>) -> Option<&'a [Parameter]>
+    ensures { option_copied result ≡ parameters_called (option_copied item.entry) }
+{
+    match item {
+        Some(Item::Function { parameters, .. }) => Some(parameters.as_slice()),
+        _ => None,
+    }
+}
+
+/// The parameters of the function that a call of a name calls.
+pub fn function_called<'a>(
+    text: &[char],
+    names: &Names,
+    context: &Context<'a>,
+) -> Option<&'a [Parameter]>
+    ensures { option_copied result ≡ parameters_called (callee_of (inner_of (inner_at context.now names.now) text.now) (item_named (items_of context.now) text.now)) }
+{
+    match find(text, names, context) {
+        None => parameters_of(context.table.item(text)),
+        Some(_) => None,
+    }
+}
