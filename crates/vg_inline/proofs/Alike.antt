@@ -5,14 +5,14 @@ use Rattle.std.specs.Option.{option_map}
 use Rattle.std.proofs.lemmas.Bool.{cases_lt}
 use Rattle.vg_nodes.specs.Nodes.{sum_of, most_nodes}
 use Rattle.vg_inline.specs.declared.tree.Tree.{Tree, roll-Tree, ind-Tree, map-Tree}
-use Rattle.vg_inline.specs.declared.tree.Tree.TheVariants.{rolls-Whole, rolls-Constant, rolls-Field, rolls-Resource, rolls-Parameter, rolls-Indexed, rolls-Access, rolls-Join, rolls-Unary, rolls-Binary, rolls-Cast, rolls-Slice, rolls-If}
+use Rattle.vg_inline.specs.declared.tree.Tree.TheVariants.{rolls-Whole, rolls-Constant, rolls-Field, rolls-Resource, rolls-Parameter, rolls-Lacking, rolls-Indexed, rolls-Access, rolls-Join, rolls-Unary, rolls-Binary, rolls-Cast, rolls-Slice, rolls-If}
 use Rattle.vg_inline.specs.declared.tree.Tree.TheOpen.{Tree-F}
 use Rattle.vg_inline.specs.declared.made.Made.{Made}
 use Rattle.vg_inline.specs.declared.made.MadeList.{MadeList}
 use Rattle.vg_inline.specs.InPlace.{argument_or, given}
 use Rattle.vg_inline.specs.Size.{size}
 use Rattle.vg_inline.specs.Made.{within, within_all, access_made, join_made, unary_made, binary_made, cast_made, slice_made, if_made, indexed_made, moved_made}
-use Rattle.vg_inline.proofs.Levels.{given-Whole, given-Constant, given-Field, given-Resource, given-Parameter, given-Indexed, given-Access, given-Join, given-Unary, given-Binary, given-Cast, given-Slice, given-If}
+use Rattle.vg_inline.proofs.Levels.{given-Whole, given-Constant, given-Field, given-Resource, given-Parameter, given-Lacking, given-Indexed, given-Access, given-Join, given-Unary, given-Binary, given-Cast, given-Slice, given-If}
 use Rattle.vg_inline.proofs.Keeping.{few, many, few_all, many_all, within-Access, within-Unary, within-Cast, within-Slice, within-Join, within-Binary, within-If, within-Indexed}
 use Rattle.vg_inline.proofs.PlacedSteps.{within_moved}
 
@@ -40,11 +40,11 @@ module _ (xs ys : List Tree) (same : (k : ℕ) → option_map within (slice_get 
   abbrev plain : Known → Tree
   plain k = k.0
 
-  argument : (o p : Option Tree) (k at : ℕ) → option_map within o ≡ option_map within p → within (argument_or o k at) ≡ within (argument_or p k at)
-  argument None None k at e = refl
-  argument None (Some u) k at e = absurd (cc)
-  argument (Some t) None k at e = absurd (cc)
-  argument (Some t) (Some u) k at e = let kept_same : within t ≡ within u = cc in sym (within_moved at t) ∙ ap (moved_made at) kept_same ∙ within_moved at u
+  argument : (o p : Option Tree) (at : ℕ) → option_map within o ≡ option_map within p → within (argument_or o at) ≡ within (argument_or p at)
+  argument None None at e = refl
+  argument None (Some u) at e = absurd (cc)
+  argument (Some t) None at e = absurd (cc)
+  argument (Some t) (Some u) at e = let kept_same : within t ≡ within u = cc in sym (within_moved at t) ∙ ap (moved_made at) kept_same ∙ within_moved at u
 
   lists : (known : List Known) → within_all (map (given xs) (map plain known)) ≡ within_all (map (given ys) (map plain known))
   lists [] = refl
@@ -61,7 +61,8 @@ module _ (xs ys : List Tree) (same : (k : ℕ) → option_map within (slice_get 
   layer (Tree-F.Resource item at) = subst Alike (sym (rolls-Resource item at)) (ap within (given-Resource xs item at ∙ sym (given-Resource ys item at)))
   layer (Tree-F.Parameter parameter at) =
       subst Alike (sym (rolls-Parameter parameter at))
-      (ap within (given-Parameter xs parameter at) ∙ argument (slice_get xs parameter) (slice_get ys parameter) parameter at (same parameter) ∙ ap within (sym (given-Parameter ys parameter at)))
+      (ap within (given-Parameter xs parameter at) ∙ argument (slice_get xs parameter) (slice_get ys parameter) at (same parameter) ∙ ap within (sym (given-Parameter ys parameter at)))
+  layer (Tree-F.Lacking at) = subst Alike (sym (rolls-Lacking at)) (ap within (given-Lacking xs at ∙ sym (given-Lacking ys at)))
   layer (Tree-F.Indexed item at arguments) =
       subst Alike (sym (rolls-Indexed item at (map plain arguments)))
       (ap within (given-Indexed xs item at (map plain arguments)) ∙ sym (within-Indexed item at _) ∙ ap (indexed_made item at) (lists arguments) ∙ within-Indexed item at _ ∙ ap within (sym (given-Indexed ys item at (map plain arguments))))

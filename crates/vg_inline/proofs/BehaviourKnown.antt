@@ -16,7 +16,6 @@ use Rattle.vg_nodes.specs.Nodes.{Functions, AreFunctions, excesses}
 use Rattle.vg_inline.specs.declared.declared.Declared.{Declared}
 use Rattle.vg_inline.specs.declared.effect.Effect.{Effect}
 use Rattle.vg_inline.specs.InPlace.{Aliases, Templates, Known, IsKnown, behaviour_of, field_places, template_of}
-use Rattle.vg_inline.specs.Calls.{are_full}
 use Rattle.vg_inline.specs.Context.{aliases_by, templates_by}
 use Rattle.vg_inline.specs.Made.{within}
 use Rattle.vg_inline.specs.Known.{FitsLimit, ordered_aliases, ordered_templates, known_by}
@@ -78,11 +77,11 @@ module _ (d : Desc) (order : List ℕ) (worths : List Worth) (distinct : duplica
   unfolding known_by
   behaviour_known item = behaviour_alike d.items C A (templates_by d.items (worked_along d.items C A order (nothing_worked_out d.items))) (ordered_templates d.items C order) same item
 
-  all_whole : (known : Known) (functions : Functions) → IsKnown d.items known → are_full d.items ≡ true → AreFunctions d.items known.constants functions → excesses d known.constants functions ≡ []
+  all_whole : (known : Known) (functions : Functions) → IsKnown d.items known → AreFunctions d.items known.constants functions → excesses d known.constants functions ≡ []
       → map (behaviour_kept d.items known) d.items ≡ map (behaviour_of d.items known) d.items
-  all_whole known functions known_so full right none =
+  all_whole known functions known_so right none =
       map_at (behaviour_kept d.items known) (behaviour_of d.items known) d.items
-      (λ k item at. fitting (behaviour_of d.items known item) (counts.effects_fit d order known functions distinct is known_so full right none k item at))
+      (λ k item at. fitting (behaviour_of d.items known item) (counts.effects_fit d order known functions distinct is known_so right none k item at))
 
   -- so they are, worked out with these aliases
   pub are_behaviours : (all : List Item) (list read : List Declared) (effects : List (Option Effect)) → all ≡ d.items → read ≡ list → aliases_by d.items list ≡ A
@@ -101,5 +100,5 @@ module _ (d : Desc) (order : List ℕ) (worths : List Worth) (distinct : duplica
         known = known_by d.items C order;
         is_known = is_known;
         kept = kept;
-        whole = λ functions full right none. kept ∙ all_whole (known_by d.items C order) functions is_known full right none;
+        whole = λ functions right none. kept ∙ all_whole (known_by d.items C order) functions is_known right none;
       }

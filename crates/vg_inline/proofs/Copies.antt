@@ -13,7 +13,7 @@ use Rattle.vg_inline.specs.InPlace.{moved, given}
 use Rattle.vg_inline.specs.Size.{weighed, size, nothing}
 use Rattle.vg_inline.specs.Made.{kept, within, within_all, tree_or, too_large, added}
 use Rattle.vg_inline.proofs.MovedSizes.{moved_weighs}
-use Rattle.vg_inline.proofs.GivenSizes.{given_size}
+use Rattle.vg_inline.proofs.GivenSizes.{given_weighs}
 use Rattle.vg_inline.proofs.WeighedAlike.{weigh_alike}
 use Rattle.vg_inline.proofs.Weights.{too_large_size}
 use Rattle.vg_inline.proofs.Keeping.{few, many, few_all, many_all}
@@ -36,7 +36,7 @@ grows : (s : ℕ → ℕ) (t : Tree) → size t ≤ weighed s t
 grows s t = weigh_alike (λ a b. a ≤ b) (λ n. omega arith) (λ a b c d e g. omega arith) nothing s (λ k. omega arith) t
 
 pub given_grows : (inner : List Tree) (t : Tree) → size t ≤ size (given inner t)
-given_grows inner t = let e = given_size inner t in let le = grows (sizes_of (map size inner)) t in omega arith
+given_grows inner t = let e = given_weighs nothing inner t in let le = grows (sizes_of (map size inner)) t in omega arith
 
 pub none_given : (inner : List Tree) → None ≡ within (given inner too_large)
 none_given inner = let e = too_large_size in let le = given_grows inner too_large in sym (many (size (given inner too_large)) (given inner too_large) (omega arith))
@@ -49,7 +49,7 @@ same_sizes (m ∷ made) (suc k) = same_sizes made k
 pub too_many_given : (made : List (Option Made)) (t : Tree) (sizes : List ℕ) (n : ℕ) → sizes ≡ map (λ (m : Option Made). capped (size (tree_or m))) made → n ≡ capped (weighed (sizes_of sizes) t) → 4096 < n
     → None ≡ within (given (map tree_or made) t)
 too_many_given made t sizes n are e lt =
-    let s = given_size (map tree_or made) t in
+    let s = given_weighs nothing (map tree_or made) t in
     let counted : n ≡ capped (weighed (sizes_of (map (λ (m : Option Made). capped (size (tree_or m))) made)) t) = e ∙ ap (λ (l : List ℕ). capped (weighed (sizes_of l) t)) are in
     let same : capped (weighed (sizes_of (map (λ (m : Option Made). capped (size (tree_or m))) made)) t) ≡ capped (weighed (sizes_of (map size (map tree_or made))) t) =
     weigh_alike (λ a b. capped a ≡ capped b) (λ k. refl) capped_sum (sizes_of (map (λ (m : Option Made). capped (size (tree_or m))) made)) (sizes_of (map size (map tree_or made))) (same_sizes made) t in

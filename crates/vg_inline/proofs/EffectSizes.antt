@@ -15,9 +15,9 @@ use Rattle.vg_inline.specs.declared.effect.Effect.TheOpen.{Effect-F}
 use Rattle.vg_inline.specs.declared.effect.Effect.TheVariants as effects
 use Rattle.vg_inline.specs.declared.effect.Effect.TheVariants.{rolls-Block, rolls-If, rolls-Assign}
 use Rattle.vg_inline.specs.InPlace.{Placed, Known, Effects, placed, target_of, effects_of_all, effect_step, effect_of}
-use Rattle.vg_inline.specs.Size.{size, target_size, effect_size_step, effect_size, measures_of, functions_of, AreNodes, NodesAreCounted}
+use Rattle.vg_inline.specs.Size.{nothing, size, target_size, effect_size_step, effect_size, measures_of, functions_of, AreNodes, NodesAreCounted}
 use Rattle.vg_inline.proofs.MovedSizes.{both, more}
-use Rattle.vg_inline.proofs.PlacedSizes.{good}
+use Rattle.vg_inline.proofs.PlacedSizes.{weighs}
 
 pub size-Block : (at : ℕ) (body : List Effect) → effect_size (effects.Block at body) ≡ sum_of (map effect_size body)
 size-Block at body = ap effect_size (sym (rolls-Block at body)) ∙ fold-roll-Effect ℕ effect_size_step (Effect-F.Block at body)
@@ -45,7 +45,7 @@ module _ (all : List Item) (known : Known) where
   plain k = k.0
 
   tree_size : (e : Expr) (inner : Inner Placed) → AreNodes inner → size (placed all known e inner).tree ≡ nodes all known.constants F e (measures_of inner)
-  tree_size e inner h = sym (ap (λ (m : Measure). m.nodes) (good all known e inner h).0)
+  tree_size e inner h = sym (ap (λ (m : Measure). m.nodes) (weighs all known nothing e inner h).0)
 
   goal_size : (goal : Goal) (inner : Inner Placed) → AreNodes inner → target_size (target_of all known goal inner) ≡ goal_nodes all known.constants F goal (measures_of inner)
   goal_size (goals.Name name) inner h = refl
@@ -75,8 +75,8 @@ module _ (all : List Item) (known : Known) where
       (size-Block at _ ∙ all_sizes body inner h)
   layer (Statement-F.Let at name bound body) inner h =
       through (Statement-F.Let at name bound body.0) inner _ _ (put (Statement-F.Let at name bound body.0) inner) (counted (Statement-F.Let at name bound body.0) inner)
-      (body.1 ((name.text, placed all known bound inner) ∷ inner) ((good all known bound inner h).1, h)
-      ∙ ap (λ (m : Measure). statement_nodes all known.constants F body.0 ((name.text, m) ∷ measures_of inner)) (sym (good all known bound inner h).0))
+      (body.1 ((name.text, placed all known bound inner) ∷ inner) ((weighs all known nothing bound inner h).1, h)
+      ∙ ap (λ (m : Measure). statement_nodes all known.constants F body.0 ((name.text, m) ∷ measures_of inner)) (sym (weighs all known nothing bound inner h).0))
   layer (Statement-F.If at condition body None) inner h =
       through (Statement-F.If at condition body.0 None) inner _ _ (put (Statement-F.If at condition body.0 None) inner) (counted (Statement-F.If at condition body.0 None) inner)
       (size-If_alone at _ _ ∙ more _ _ (both _ _ _ _ (tree_size condition inner h) (ap (λ (n : ℕ). n + 0) (body.1 inner h))))

@@ -16,7 +16,7 @@ use Rattle.vg_inline.specs.InPlace.{argument_or, moved, given}
 use Rattle.vg_inline.specs.Size.{weighed, size}
 use Rattle.vg_inline.specs.Made.{within, within_all, if_made, indexed_made, tree_or}
 use Rattle.vg_inline.proofs.Levels.{given-Indexed, given-If}
-use Rattle.vg_inline.proofs.Keeping.{within-If, within-Indexed, parameter_kept}
+use Rattle.vg_inline.proofs.Keeping.{within-If, within-Indexed}
 use Rattle.vg_inline.proofs.Copies.{none_copied, none_given, too_many_given}
 
 pub same_made : {X Y : Type 0} (r : Result X Y) (x y : X) → x ≡ y → IfOk r (λ m. m ≡ x) → IfOk r (λ m. m ≡ y)
@@ -37,14 +37,11 @@ given_if inner t at a b c x y z k l m is same_a same_b same_c e g h =
     ∙ within-If at (given inner a) (given inner b) (given inner c)
     ∙ ap within (sym (given-If inner at a b c)) ∙ ap (λ (u : Tree). within (given inner u)) (sym is)
 
-pub argument_missing : (arguments : List (Option Made)) (k at : ℕ) (t : Tree) → slice_get arguments k ≡ None → t ≡ tree.Parameter k at
-    → Some (let m : Made = record { tree = t; nodes = 0 } in m) ≡ within (argument_or (slice_get (map tree_or arguments) k) k at)
-argument_missing arguments k at t none same =
-    ap (λ (u : Tree). Some (let m : Made = record { tree = u; nodes = 0 } in m)) same ∙ parameter_kept k at
-    ∙ ap (λ (o : Option Tree). within (argument_or o k at)) (sym (slice_get-map tree_or arguments k ∙ ap (option_map tree_or) none))
+pub argument_missing : (arguments : List (Option Made)) (k at : ℕ) → slice_get arguments k ≡ None → within (tree.Lacking at) ≡ within (argument_or (slice_get (map tree_or arguments) k) at)
+argument_missing arguments k at none = ap (λ (o : Option Tree). within (argument_or o at)) (sym (slice_get-map tree_or arguments k ∙ ap (option_map tree_or) none))
 
-pub argument_given : (arguments : List (Option Made)) (k at : ℕ) (made : Option Made) → slice_get arguments k ≡ Some made → within (moved at (tree_or made)) ≡ within (argument_or (slice_get (map tree_or arguments) k) k at)
-argument_given arguments k at made some = ap (λ (o : Option Tree). within (argument_or o k at)) (sym (slice_get-map tree_or arguments k ∙ ap (option_map tree_or) some))
+pub argument_given : (arguments : List (Option Made)) (k at : ℕ) (made : Option Made) → slice_get arguments k ≡ Some made → within (moved at (tree_or made)) ≡ within (argument_or (slice_get (map tree_or arguments) k) at)
+argument_given arguments k at made some = ap (λ (o : Option Tree). within (argument_or o at)) (sym (slice_get-map tree_or arguments k ∙ ap (option_map tree_or) some))
 
 pub none_moved : (made : Option Made) (at : ℕ) → made ≡ None → None ≡ within (moved at (tree_or made))
 none_moved made at is = none_copied at ∙ ap (λ (o : Option Made). within (moved at (tree_or o))) (sym is)

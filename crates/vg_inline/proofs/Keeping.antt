@@ -14,9 +14,9 @@ use Rattle.vg_inline.specs.declared.made.MadeList.{MadeList}
 use Rattle.vg_inline.specs.InPlace.{whole_or, taking, whole_at}
 use Rattle.vg_inline.specs.Size.{size, nothing}
 use Rattle.vg_inline.specs.Made.{kept, within, within_all, access_made, join_made, unary_made, binary_made, cast_made, slice_made, if_made, indexed_made, one_node, whole_or_made, made_at, taking_made, too_large, tree_or}
-use Rattle.vg_inline.proofs.Levels.{weighed-Whole, weighed-Constant, weighed-Field, weighed-Resource, weighed-Parameter, weighed-Indexed, weighed-Access, weighed-Join, weighed-Unary, weighed-Binary, weighed-Cast, weighed-Slice, weighed-If}
+use Rattle.vg_inline.proofs.Levels.{weighed-Whole, weighed-Constant, weighed-Field, weighed-Resource, weighed-Parameter, weighed-Lacking, weighed-Indexed, weighed-Access, weighed-Join, weighed-Unary, weighed-Binary, weighed-Cast, weighed-Slice, weighed-If}
 use Rattle.vg_inline.proofs.Weights.{too_large_size}
-use Rattle.vg_inline.proofs.PlacedSizes.{taking_size}
+use Rattle.vg_inline.proofs.PlacedSizes.{taking_weighs}
 
 pub few : (n : ℕ) (t : Tree) → n ≤ 4096 → kept n t ≡ Some (let m : Made = record { tree = t; nodes = n } in m)
 few n t le = ap (λ (b : Bool). if b then Some (let m : Made = record { tree = t; nodes = n } in m) else None) (le-leb n 4096 le)
@@ -113,6 +113,9 @@ within-Resource item at = within-one (tree.Resource item at) (weighed-Resource n
 pub parameter_kept : (parameter at : ℕ) → Some (let m : Made = record { tree = tree.Parameter parameter at; nodes = 0 } in m) ≡ within (tree.Parameter parameter at)
 parameter_kept parameter at = sym (few 0 (tree.Parameter parameter at) (omega arith)) ∙ ap (λ (n : ℕ). kept n (tree.Parameter parameter at)) (sym (weighed-Parameter nothing parameter at))
 
+pub lacking_kept : (at : ℕ) → Some (let m : Made = record { tree = tree.Lacking at; nodes = 0 } in m) ≡ within (tree.Lacking at)
+lacking_kept at = sym (few 0 (tree.Lacking at) (omega arith)) ∙ ap (λ (n : ℕ). kept n (tree.Lacking at)) (sym (weighed-Lacking nothing at))
+
 pub within_whole : (w : Worth) (at : ℕ) (t : Tree) → whole_or_made w at (within t) ≡ within (whole_or w at t)
 within_whole (worths.Whole n) at t = within-Whole n at
 within_whole worths.Broken at t = within-Whole 0 at
@@ -141,7 +144,7 @@ within_at t at = kept_place t at (λ lt. refl)
 
 kept_taking : (declared : Declared) (t : Tree) → (4096 < size t → taking declared t ≡ t) → taking_made declared (within t) ≡ within (taking declared t)
 kept_taking declared t h = elim (cases_lt (size t) 4097) [
-  | inl lt ↦ ap (taking_made declared) (few (size t) t (omega arith)) ∙ sym (few (size t) (taking declared t) (omega arith)) ∙ ap (λ (n : ℕ). kept n (taking declared t)) (sym (taking_size declared t))
+  | inl lt ↦ ap (taking_made declared) (few (size t) t (omega arith)) ∙ sym (few (size t) (taking declared t) (omega arith)) ∙ ap (λ (n : ℕ). kept n (taking declared t)) (sym (taking_weighs nothing declared t))
   | inr ge ↦ ap (taking_made declared) (many (size t) t (omega arith)) ∙ sym (many (size t) t (omega arith)) ∙ ap within (sym (h (omega arith)))
 ]
 

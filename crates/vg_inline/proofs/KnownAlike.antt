@@ -20,14 +20,14 @@ use Rattle.vg_inline.specs.declared.tree.Tree.{Tree}
 use Rattle.vg_inline.specs.declared.tree.Tree.TheVariants as tree
 use Rattle.vg_inline.specs.InPlace.{Placed, Places, Aliases, Templates, Known, typed, whole_or, whole_at, taking, taking_types, given, template_or, trees_of_all, callee_of, called, declared_type, placed_step, placed, parameter_places, template_of}
 
-abbrev pub texts_of : Inner Placed → List Text
+abbrev texts_of : Inner Placed → List Text
 texts_of inner = map (λ (x : Text × Placed). x.0) inner
 
 pub among_own : (text : Text) → is_among text (text ∷ []) ≡ true
 among_own text = ap (λ (t : Bool). if t then true else false) (own_text text)
 
 -- a name that stands for nothing is none of the inner names
-pub unhidden : (text : Text) (inner : Inner Placed) → inner_of inner text ≡ None → is_among text (texts_of inner) ≡ false
+unhidden : (text : Text) (inner : Inner Placed) → inner_of inner text ≡ None → is_among text (texts_of inner) ≡ false
 unhidden text [] e = refl
 unhidden text (x ∷ inner) e = by (bytes_eq x.0 text) (unhidden text inner) e
   where
@@ -41,7 +41,7 @@ ap2 f x y z w e h = ap (λ (p : Placed). f p z) e ∙ ap (f y) h
 ap3 : {X : Type 0} (f : Placed → Placed → Placed → X) (x y z w u v : Placed) → x ≡ y → z ≡ w → u ≡ v → f x z u ≡ f y w v
 ap3 f x y z w u v e h i = ap (λ (p : Placed). f p z u) e ∙ ap2 (f y) z w u v h i
 
-pub parameter_texts : (k : ℕ) (parameters : List Parameter) → texts_of (parameter_places k parameters) ≡ map (λ (parameter : Parameter). parameter.name.text) parameters
+parameter_texts : (k : ℕ) (parameters : List Parameter) → texts_of (parameter_places k parameters) ≡ map (λ (parameter : Parameter). parameter.name.text) parameters
 parameter_texts k [] = refl
 parameter_texts k (parameter ∷ more) = ap (λ (l : List Text). parameter.name.text ∷ l) (parameter_texts (k + 1) more)
 

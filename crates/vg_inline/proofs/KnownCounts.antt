@@ -1,20 +1,17 @@
--- Instructions that aren't counted as too large aren't too large with everything in place, where each call of a function has
--- an argument for each parameter.
-use Rattle.std.proofs.Common.{◌≡◌, ℕ, zero, suc, ◌+◌, ◌<◌, ◌≤◌, Bool, true, false, nat_lt, List, map, [], ◌∷◌, ◌++◌, length, Option, Some, sym, ap, subst, ◌∙◌, refl, arith, true≢false, if◌then◌else◌}
+-- Instructions that aren't counted as too large aren't too large with everything in place.
+use Rattle.std.proofs.Common.{◌≡◌, ℕ, zero, suc, ◌+◌, ◌≤◌, Bool, true, false, nat_lt, List, [], ◌∷◌, ◌++◌, Option, Some, sym, ap, subst, ◌∙◌, refl, arith, true≢false, if◌then◌else◌}
 use Rattle.std.specs.Prelude.{slice_get}
-use Rattle.std.specs.List.{list_all}
 use Rattle.std.proofs.lemmas.Bool.{ltb-false}
 use Rattle.vg_ast.specs.declared.desc.Desc.{Desc}
-use Rattle.vg_ast.specs.declared.expr.Expr.{Expr}
 use Rattle.vg_ast.specs.declared.parameter.Parameter.{Parameter}
 use Rattle.vg_ast.specs.declared.item.Item.{Item}
 use Rattle.vg_ast.specs.declared.item.Item.TheVariants as items
-use Rattle.vg_names.specs.Definition.{Text, item_named, is_among, definition_of, defines, fields_of_format}
+use Rattle.vg_names.specs.Definition.{Text, item_named, is_among, fields_of_format}
 use Rattle.vg_names.specs.Duplicate.{duplicates}
 use Rattle.vg_names.specs.Unknown.{in_each}
 use Rattle.vg_order.specs.Uses.{uses_of}
 use Rattle.vg_order.specs.Cyclic.{is_replaced, IsOrder}
-use Rattle.vg_whole.specs.Whole.{Inner, Constants}
+use Rattle.vg_whole.specs.Whole.{Inner}
 use Rattle.vg_nodes.specs.Callee.{is_function_item}
 use Rattle.vg_nodes.specs.Counts.{sizes_of}
 use Rattle.vg_nodes.specs.Inner.{Sizes}
@@ -24,18 +21,14 @@ use Rattle.vg_nodes.proofs.Fixed.{function_alike}
 use Rattle.vg_nodes.proofs.StatementAgreement.{statement_alike}
 use Rattle.vg_inline.specs.declared.tree.Tree.{Tree}
 use Rattle.vg_inline.specs.declared.tree.Tree.TheVariants as tree
-use Rattle.vg_inline.specs.InPlace.{Aliases, Known, typed, taking, template_or, declared_type, placed, parameter_places, field_places, template_of, behaviour_of, IsKnown}
-use Rattle.vg_inline.specs.Size.{weighed, nothing, measures_of, functions_of, AreNodes}
-use Rattle.vg_inline.specs.Known.{templates_within, ordered_aliases, known_by, FitsLimit, EffectsFit}
-use Rattle.vg_inline.specs.Calls.{is_full, is_full_item, are_full}
-use Rattle.vg_inline.proofs.Levels.{weighed-Whole, weighed-Field, weighed-Parameter}
+use Rattle.vg_inline.specs.InPlace.{Known, typed, taking, declared_type, placed, parameter_places, field_places, template_of, behaviour_of, IsKnown}
+use Rattle.vg_inline.specs.Size.{nothing, measures_of, functions_of, AreNodes}
+use Rattle.vg_inline.specs.Known.{FitsLimit, EffectsFit}
+use Rattle.vg_inline.proofs.Levels.{weighed-Field, weighed-Parameter}
 use Rattle.vg_inline.proofs.EffectSizes.{nodes_are_counted}
-use Rattle.vg_inline.proofs.KnownOrder.{both_left, both_right, ordered}
-use Rattle.vg_inline.proofs.KnownAlike.{texts_of, parameter_texts}
+use Rattle.vg_inline.proofs.KnownOrder.{ordered}
 use Rattle.vg_inline.proofs.KnownTypes.{function_replaced}
-use Rattle.vg_inline.proofs.KnownSettled.{by_order}
-use Rattle.vg_inline.proofs.KnownOnly.{only_is_known}
-use Rattle.vg_inline.proofs.KnownWeights.{weight_of, weights_of, ClosedCall, taking_weighs, weighs}
+use Rattle.vg_inline.proofs.PlacedSizes.{weight_of, weights_of, taking_weighs, weighs}
 
 parameters_are_nodes : (k : ℕ) (parameters : List Parameter) → AreNodes (parameter_places k parameters)
 parameters_are_nodes k [] = tt
@@ -44,14 +37,7 @@ parameters_are_nodes k (parameter ∷ more) = (tt, parameters_are_nodes (k + 1) 
 parameter_weight : (sizes : Sizes) (k n : ℕ) → sizes k ≡ n → weight_of sizes (typed (tree.Parameter k 0)) ≡ counted n
 parameter_weight sizes k n e = ap counted (weighed-Parameter sizes k 0 ∙ e)
 
--- parameters weigh what their sizes say
-weights_same : (s u : Sizes) (k : ℕ) (parameters : List Parameter) → ((j : ℕ) → j < k + length parameters → s j ≡ u j) → weights_of s (parameter_places k parameters) ≡ weights_of u (parameter_places k parameters)
-weights_same s u k [] same = refl
-weights_same s u k (parameter ∷ more) same =
-    let first : k < k + suc (length more) = omega arith in
-    ap (λ (m : Measure). (parameter.name.text, m) ∷ weights_of s (parameter_places (k + 1) more)) (parameter_weight s k (u k) (same k first) ∙ sym (parameter_weight u k (u k) refl))
-    ∙ ap (λ (l : Inner Measure). (parameter.name.text, weight_of u (typed (tree.Parameter k 0))) ∷ l) (weights_same s u (k + 1) more (λ j lt. let less : j < k + suc (length more) = omega arith in same j less))
-
+-- the parameters of a function weigh what is given for them
 weights_bound : (k : ℕ) (parameters : List Parameter) (sizes : Sizes) (xs : List ℕ) → ((i : ℕ) → sizes (k + i) ≡ sizes_of xs i) → weights_of sizes (parameter_places k parameters) ≡ bound_to parameters xs
 weights_bound k [] sizes xs same = refl
 weights_bound k (parameter ∷ more) sizes [] same =
@@ -63,59 +49,13 @@ weights_bound k (parameter ∷ more) sizes (x ∷ xs) same =
     ap (λ (m : Measure). (parameter.name.text, m) ∷ weights_of sizes (parameter_places (k + 1) more)) (parameter_weight sizes k x (ap sizes at ∙ same 0))
     ∙ ap (λ (l : Inner Measure). (parameter.name.text, counted x) ∷ l) (weights_bound (k + 1) more sizes xs (λ i. let next : (k + 1) + i ≡ k + suc i = omega arith in ap sizes next ∙ same (suc i)))
 
-full_named : (test : Item → Bool) (all : List Item) (text : Text) (item : Item) → list_all test all ≡ true → item_named all text ≡ Some item → test item ≡ true
-full_named test [] text item full e = absurd (cc)
-full_named test (first ∷ more) text item full e = by (defines text (definition_of first)) (full_named test more text item (both_right (test first) (list_all test more) full)) e
-  where
-    by : (b : Bool) → (item_named more text ≡ Some item → test item ≡ true) → (if b then Some first else item_named more text) ≡ Some item → test item ≡ true
-    by true again h = let same : first ≡ item = cc in ap test (sym same) ∙ both_left (test first) (list_all test more) full
-    by false again h = again h
-
-module _ (all : List Item) (full : are_full all ≡ true) where
-  full_body : (text : Text) (item : Item) (parameters : List Parameter) (body : Expr) → item_named all text ≡ Some item → is_full_item all item ≡ is_full all body (map (λ (parameter : Parameter). parameter.name.text) parameters)
-      → is_full all body (texts_of (parameter_places 0 parameters)) ≡ true
-  full_body text item parameters body e of_item =
-      ap (is_full all body) (parameter_texts 0 parameters) ∙ sym of_item ∙ full_named (is_full_item all) all text item full e
-
-  module _ (constants : Constants) (aliases : Aliases) where
-    abbrev K : ℕ → Known
-    K n = record { constants = constants; aliases = aliases; templates = templates_within all constants aliases n }
-
-    -- only the parameters of a function have a weight in its body
-    closed_within : (n : ℕ) (text : Text) → ClosedCall (templates_within all constants aliases n) (item_named all text) text
-    closed_within zero text = by (item_named all text)
-      where
-        by : (o : Option Item) → ClosedCall (templates_within all constants aliases zero) o text
-        by (Some (items.Function at name parameters result body)) = λ start s u same. weighed-Whole s 0 start ∙ sym (weighed-Whole u 0 start)
-        by _ = tt
-    closed_within (suc n) text = by (closed_within n) (item_named all text) refl
-      where
-        by : ((t : Text) → ClosedCall (templates_within all constants aliases n) (item_named all t) t) → (o : Option Item) → item_named all text ≡ o → ClosedCall (templates_within all constants aliases (suc n)) o text
-        by closed (Some (items.Function at name parameters result body)) e =
-            λ start s u same.
-            let body_tree : Tree = (placed all (K n) body (parameter_places 0 parameters)).tree in
-            let whole_tree : Tree = taking (declared_type (K n) result) body_tree in
-            let made : templates_within all constants aliases (suc n) text ≡ Some whole_tree = ap (template_of all (K n)) e in
-            let passes = full_body text (items.Function at name parameters result body) parameters body e refl in
-            let counts : (sizes : Sizes) → nodes all constants (functions_of (templates_within all constants aliases n)) body (weights_of sizes (parameter_places 0 parameters)) ≡ weighed sizes (template_or (templates_within all constants aliases (suc n) text) start) =
-            λ sizes. ap (λ (m : Measure). m.nodes) (weighs all (K n) closed sizes body (parameter_places 0 parameters) (parameters_are_nodes 0 parameters) passes)
-            ∙ sym (taking_weighs sizes (declared_type (K n) result) body_tree) ∙ sym (ap (λ (o : Option Tree). weighed sizes (template_or o start)) made) in
-            sym (counts s) ∙ ap (nodes all constants (functions_of (templates_within all constants aliases n)) body) (weights_same s u 0 parameters (λ j lt. same j (omega arith))) ∙ counts u
-        by closed _ e = tt
-
 plainly : (a b c d : ℕ) → a ≡ b → c ≡ d → a + c ≡ b + d
 plainly a b c d e g = ap (λ (n : ℕ). n + c) e ∙ ap (λ (n : ℕ). b + n) g
 
 abbrev itself : ℕ → ℕ
 itself n = n
 
-module _ (d : Desc) (distinct : duplicates d ≡ []) (order : List ℕ) (is : IsOrder d.items order) (known : Known) (of : IsKnown d.items known) (full : are_full d.items ≡ true) where
-  closed : (text : Text) → ClosedCall known.templates (item_named d.items text) text
-  unfolding known_by
-  closed text =
-      subst (λ (k : Known). ClosedCall k.templates (item_named d.items text) text) (sym (only_is_known d order known (known_by d.items known.constants order) distinct is of (by_order d order known.constants distinct is of.constants)))
-      (closed_within d.items full known.constants (ordered_aliases d.items known.constants order) (length order) text)
-
+module _ (d : Desc) (distinct : duplicates d ≡ []) (order : List ℕ) (is : IsOrder d.items order) (known : Known) (of : IsKnown d.items known) where
   abbrev F : Functions
   F = functions_of known.templates
 
@@ -125,9 +65,8 @@ module _ (d : Desc) (distinct : duplicates d ≡ []) (order : List ℕ) (is : Is
       let body_tree : Tree = (placed d.items known body (parameter_places 0 parameters)).tree in
       let whole_tree : Tree = taking (declared_type known result) body_tree in
       let made : known.templates text ≡ Some whole_tree = of.templates text ∙ ap (template_of d.items known) e in
-      let passes = full_body d.items full text (items.Function at name parameters result body) parameters body e refl in
       ap (λ (o : Option Tree). functions_of (λ t. o) text xs) made ∙ taking_weighs (sizes_of xs) (declared_type known result) body_tree
-      ∙ sym (ap (λ (m : Measure). m.nodes) (weighs d.items known closed (sizes_of xs) body (parameter_places 0 parameters) (parameters_are_nodes 0 parameters) passes))
+      ∙ sym (ap (λ (m : Measure). m.nodes) (weighs d.items known (sizes_of xs) body (parameter_places 0 parameters) (parameters_are_nodes 0 parameters)).0)
       ∙ ap (nodes d.items known.constants F body) (weights_bound 0 parameters (sizes_of xs) xs (λ i. let at : 0 + i ≡ i = omega arith in ap (sizes_of xs) at))
   called_counts text _ xs e called = absurd (true≢false (sym called))
 
@@ -189,4 +128,4 @@ module _ (d : Desc) (distinct : duplicates d ≡ []) (order : List ℕ) (is : Is
     each_fits (first ∷ more) e (suc k) item at = each_fits more (rest_none (item_excess d.items known.constants G first) (in_each (item_excess d.items known.constants G) more) e) k item at
 
 pub effects_fit : EffectsFit
-effects_fit d order known functions distinct is of full are none k item at = each_fits d distinct order is known of full functions are d.items none k item at
+effects_fit d order known functions distinct is of are none k item at = each_fits d distinct order is known of functions are d.items none k item at

@@ -9,7 +9,7 @@ use Rattle.vg_nodes.specs.Nodes.{sum_of}
 use Rattle.vg_inline.specs.declared.declared.Declared.{Declared}
 use Rattle.vg_inline.specs.declared.tree.Tree.{Tree, fold-roll-Tree}
 use Rattle.vg_inline.specs.declared.tree.Tree.TheVariants as tree
-use Rattle.vg_inline.specs.declared.tree.Tree.TheVariants.{rolls-Whole, rolls-Constant, rolls-Field, rolls-Resource, rolls-Parameter, rolls-Indexed, rolls-Access, rolls-Join, rolls-Unary, rolls-Binary, rolls-Cast, rolls-Slice, rolls-If}
+use Rattle.vg_inline.specs.declared.tree.Tree.TheVariants.{rolls-Whole, rolls-Constant, rolls-Field, rolls-Resource, rolls-Parameter, rolls-Lacking, rolls-Indexed, rolls-Access, rolls-Join, rolls-Unary, rolls-Binary, rolls-Cast, rolls-Slice, rolls-If}
 use Rattle.vg_inline.specs.declared.tree.Tree.TheOpen.{Tree-F}
 use Rattle.vg_inline.specs.InPlace.{moved_step, moved, argument_or, given_step, given}
 use Rattle.vg_inline.specs.Size.{weighed_step, weighed}
@@ -28,6 +28,9 @@ weighed-Resource sizes item at = ap (weighed sizes) (sym (rolls-Resource item at
 
 pub weighed-Parameter : (sizes : Sizes) (parameter at : ℕ) → weighed sizes (tree.Parameter parameter at) ≡ sizes parameter
 weighed-Parameter sizes parameter at = ap (weighed sizes) (sym (rolls-Parameter parameter at)) ∙ fold-roll-Tree ℕ (weighed_step sizes) (Tree-F.Parameter parameter at)
+
+pub weighed-Lacking : (sizes : Sizes) (at : ℕ) → weighed sizes (tree.Lacking at) ≡ 0
+weighed-Lacking sizes at = ap (weighed sizes) (sym (rolls-Lacking at)) ∙ fold-roll-Tree ℕ (weighed_step sizes) (Tree-F.Lacking at)
 
 pub weighed-Indexed : (sizes : Sizes) (item at : ℕ) (arguments : List Tree) → weighed sizes (tree.Indexed item at arguments) ≡ 1 + sum_of (map (weighed sizes) arguments)
 weighed-Indexed sizes item at arguments = ap (weighed sizes) (sym (rolls-Indexed item at arguments)) ∙ fold-roll-Tree ℕ (weighed_step sizes) (Tree-F.Indexed item at arguments)
@@ -68,6 +71,9 @@ moved-Resource new item at = ap (moved new) (sym (rolls-Resource item at)) ∙ f
 pub moved-Parameter : (new : ℕ) (parameter at : ℕ) → moved new (tree.Parameter parameter at) ≡ tree.Parameter parameter new
 moved-Parameter new parameter at = ap (moved new) (sym (rolls-Parameter parameter at)) ∙ fold-roll-Tree Tree (moved_step new) (Tree-F.Parameter parameter at)
 
+pub moved-Lacking : (new at : ℕ) → moved new (tree.Lacking at) ≡ tree.Lacking new
+moved-Lacking new at = ap (moved new) (sym (rolls-Lacking at)) ∙ fold-roll-Tree Tree (moved_step new) (Tree-F.Lacking at)
+
 pub moved-Indexed : (new : ℕ) (item at : ℕ) (arguments : List Tree) → moved new (tree.Indexed item at arguments) ≡ tree.Indexed item new (map (moved new) arguments)
 moved-Indexed new item at arguments = ap (moved new) (sym (rolls-Indexed item at arguments)) ∙ fold-roll-Tree Tree (moved_step new) (Tree-F.Indexed item at arguments)
 
@@ -104,8 +110,11 @@ given-Field inner field at = ap (given inner) (sym (rolls-Field field at)) ∙ f
 pub given-Resource : (inner : List Tree) (item at : ℕ) → given inner (tree.Resource item at) ≡ tree.Resource item at
 given-Resource inner item at = ap (given inner) (sym (rolls-Resource item at)) ∙ fold-roll-Tree Tree (given_step inner) (Tree-F.Resource item at)
 
-pub given-Parameter : (inner : List Tree) (parameter at : ℕ) → given inner (tree.Parameter parameter at) ≡ argument_or (slice_get inner parameter) parameter at
+pub given-Parameter : (inner : List Tree) (parameter at : ℕ) → given inner (tree.Parameter parameter at) ≡ argument_or (slice_get inner parameter) at
 given-Parameter inner parameter at = ap (given inner) (sym (rolls-Parameter parameter at)) ∙ fold-roll-Tree Tree (given_step inner) (Tree-F.Parameter parameter at)
+
+pub given-Lacking : (inner : List Tree) (at : ℕ) → given inner (tree.Lacking at) ≡ tree.Lacking at
+given-Lacking inner at = ap (given inner) (sym (rolls-Lacking at)) ∙ fold-roll-Tree Tree (given_step inner) (Tree-F.Lacking at)
 
 pub given-Indexed : (inner : List Tree) (item at : ℕ) (arguments : List Tree) → given inner (tree.Indexed item at arguments) ≡ tree.Indexed item at (map (given inner) arguments)
 given-Indexed inner item at arguments = ap (given inner) (sym (rolls-Indexed item at arguments)) ∙ fold-roll-Tree Tree (given_step inner) (Tree-F.Indexed item at arguments)

@@ -26,8 +26,6 @@ mod KnownTypes
 mod KnownSettled
 mod KnownOnly
 mod KnownAliases
-mod KnownGiven
-mod KnownWeights
 mod KnownCounts
 mod KnownKept
 mod KnownTemplates

@@ -3,11 +3,11 @@ use Rattle.std.proofs.Common.{◌≡◌, ℕ, ◌+◌, List, map, [], ◌∷◌,
 use Rattle.vg_nodes.specs.Inner.{Sizes}
 use Rattle.vg_nodes.specs.Nodes.{sum_of}
 use Rattle.vg_inline.specs.declared.tree.Tree.{Tree, roll-Tree, ind-Tree, map-Tree}
-use Rattle.vg_inline.specs.declared.tree.Tree.TheVariants.{rolls-Whole, rolls-Constant, rolls-Field, rolls-Resource, rolls-Parameter, rolls-Indexed, rolls-Access, rolls-Join, rolls-Unary, rolls-Binary, rolls-Cast, rolls-Slice, rolls-If}
+use Rattle.vg_inline.specs.declared.tree.Tree.TheVariants.{rolls-Whole, rolls-Constant, rolls-Field, rolls-Resource, rolls-Parameter, rolls-Lacking, rolls-Indexed, rolls-Access, rolls-Join, rolls-Unary, rolls-Binary, rolls-Cast, rolls-Slice, rolls-If}
 use Rattle.vg_inline.specs.declared.tree.Tree.TheOpen.{Tree-F}
 use Rattle.vg_inline.specs.InPlace.{moved}
 use Rattle.vg_inline.specs.Size.{weighed}
-use Rattle.vg_inline.proofs.Levels.{weighed-Whole, weighed-Constant, weighed-Field, weighed-Resource, weighed-Parameter, weighed-Indexed, weighed-Access, weighed-Join, weighed-Unary, weighed-Binary, weighed-Cast, weighed-Slice, weighed-If, moved-Whole, moved-Constant, moved-Field, moved-Resource, moved-Parameter, moved-Indexed, moved-Access, moved-Join, moved-Unary, moved-Binary, moved-Cast, moved-Slice, moved-If}
+use Rattle.vg_inline.proofs.Levels.{weighed-Whole, weighed-Constant, weighed-Field, weighed-Resource, weighed-Parameter, weighed-Lacking, weighed-Indexed, weighed-Access, weighed-Join, weighed-Unary, weighed-Binary, weighed-Cast, weighed-Slice, weighed-If, moved-Whole, moved-Constant, moved-Field, moved-Resource, moved-Parameter, moved-Lacking, moved-Indexed, moved-Access, moved-Join, moved-Unary, moved-Binary, moved-Cast, moved-Slice, moved-If}
 
 pub both : (a b c d : ℕ) → a ≡ c → b ≡ d → a + b ≡ c + d
 both a b c d e g = ap (λ (n : ℕ). n + b) e ∙ ap (λ (n : ℕ). c + n) g
@@ -45,6 +45,9 @@ module _ (new : ℕ) (sizes : Sizes) where
   layer (Tree-F.Parameter parameter at) =
       subst Same (sym (rolls-Parameter parameter at))
       (ap (weighed sizes) (moved-Parameter new parameter at) ∙ weighed-Parameter sizes parameter new ∙ sym (weighed-Parameter sizes parameter at))
+  layer (Tree-F.Lacking at) =
+      subst Same (sym (rolls-Lacking at))
+      (ap (weighed sizes) (moved-Lacking new at) ∙ weighed-Lacking sizes new ∙ sym (weighed-Lacking sizes at))
   layer (Tree-F.Indexed item at arguments) =
       subst Same (sym (rolls-Indexed item at (map plain arguments)))
       (ap (weighed sizes) (moved-Indexed new item at (map plain arguments)) ∙ weighed-Indexed sizes item new (map (moved new) (map plain arguments)) ∙ more _ _ (sums arguments) ∙ sym (weighed-Indexed sizes item at (map plain arguments)))

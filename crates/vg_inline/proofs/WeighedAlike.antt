@@ -3,10 +3,10 @@ use Rattle.std.proofs.Common.{◌≡◌, ℕ, ◌+◌, List, map, [], ◌∷◌,
 use Rattle.vg_nodes.specs.Inner.{Sizes}
 use Rattle.vg_nodes.specs.Nodes.{sum_of}
 use Rattle.vg_inline.specs.declared.tree.Tree.{Tree, roll-Tree, ind-Tree, map-Tree}
-use Rattle.vg_inline.specs.declared.tree.Tree.TheVariants.{rolls-Whole, rolls-Constant, rolls-Field, rolls-Resource, rolls-Parameter, rolls-Indexed, rolls-Access, rolls-Join, rolls-Unary, rolls-Binary, rolls-Cast, rolls-Slice, rolls-If}
+use Rattle.vg_inline.specs.declared.tree.Tree.TheVariants.{rolls-Whole, rolls-Constant, rolls-Field, rolls-Resource, rolls-Parameter, rolls-Lacking, rolls-Indexed, rolls-Access, rolls-Join, rolls-Unary, rolls-Binary, rolls-Cast, rolls-Slice, rolls-If}
 use Rattle.vg_inline.specs.declared.tree.Tree.TheOpen.{Tree-F}
 use Rattle.vg_inline.specs.Size.{weighed}
-use Rattle.vg_inline.proofs.Levels.{weighed-Whole, weighed-Constant, weighed-Field, weighed-Resource, weighed-Parameter, weighed-Indexed, weighed-Access, weighed-Join, weighed-Unary, weighed-Binary, weighed-Cast, weighed-Slice, weighed-If}
+use Rattle.vg_inline.proofs.Levels.{weighed-Whole, weighed-Constant, weighed-Field, weighed-Resource, weighed-Parameter, weighed-Lacking, weighed-Indexed, weighed-Access, weighed-Join, weighed-Unary, weighed-Binary, weighed-Cast, weighed-Slice, weighed-If}
 
 module _ (R : ℕ → ℕ → Type 0) (same : (n : ℕ) → R n n) (plus : (a b c d : ℕ) → R a b → R c d → R (a + c) (b + d)) (s u : Sizes) (alike : (k : ℕ) → R (s k) (u k)) where
   abbrev Alike : Tree → Type 0
@@ -31,6 +31,7 @@ module _ (R : ℕ → ℕ → Type 0) (same : (n : ℕ) → R n n) (plus : (a b 
   layer (Tree-F.Field field at) = subst Alike (sym (rolls-Field field at)) (at_both _ _ _ _ (weighed-Field s field at) (weighed-Field u field at) (same 1))
   layer (Tree-F.Resource item at) = subst Alike (sym (rolls-Resource item at)) (at_both _ _ _ _ (weighed-Resource s item at) (weighed-Resource u item at) (same 1))
   layer (Tree-F.Parameter parameter at) = subst Alike (sym (rolls-Parameter parameter at)) (at_both _ _ _ _ (weighed-Parameter s parameter at) (weighed-Parameter u parameter at) (alike parameter))
+  layer (Tree-F.Lacking at) = subst Alike (sym (rolls-Lacking at)) (at_both _ _ _ _ (weighed-Lacking s at) (weighed-Lacking u at) (same 0))
   layer (Tree-F.Indexed item at arguments) = subst Alike (sym (rolls-Indexed item at (map plain arguments))) (at_both _ _ _ _ (weighed-Indexed s item at (map plain arguments)) (weighed-Indexed u item at (map plain arguments)) (plus 1 1 _ _ (same 1) (sums arguments)))
   layer (Tree-F.Access at width address) = subst Alike (sym (rolls-Access at width address.0)) (at_both _ _ _ _ (weighed-Access s at width address.0) (weighed-Access u at width address.0) (plus 1 1 _ _ (same 1) address.1))
   layer (Tree-F.Join at high low) = subst Alike (sym (rolls-Join at high.0 low.0)) (at_both _ _ _ _ (weighed-Join s at high.0 low.0) (weighed-Join u at high.0 low.0) (plus 1 1 _ _ (same 1) (plus _ _ _ _ high.1 low.1)))

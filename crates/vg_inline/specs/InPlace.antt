@@ -37,6 +37,7 @@ moved_step at (Tree-F.Constant value declared p) = tree.Constant value declared 
 moved_step at (Tree-F.Field field p) = tree.Field field at
 moved_step at (Tree-F.Resource item p) = tree.Resource item at
 moved_step at (Tree-F.Parameter parameter p) = tree.Parameter parameter at
+moved_step at (Tree-F.Lacking p) = tree.Lacking at
 moved_step at (Tree-F.Indexed item p arguments) = tree.Indexed item at arguments
 moved_step at (Tree-F.Access p size address) = tree.Access at size address
 moved_step at (Tree-F.Join p high low) = tree.Join at high low
@@ -50,10 +51,10 @@ moved_step at (Tree-F.If p condition one other) = tree.If at condition one other
 abbrev pub moved : ℕ → Tree → Tree
 moved at t = fold-Tree Tree (moved_step at) t
 
--- an argument in place of a parameter; a parameter without an argument stays
-abbrev pub argument_or : Option Tree → ℕ → ℕ → Tree
-argument_or None parameter at = tree.Parameter parameter at
-argument_or (Some argument) parameter at = moved at argument
+-- an argument in place of a parameter, or a leaf of its own where it lacks
+abbrev pub argument_or : Option Tree → ℕ → Tree
+argument_or None at = tree.Lacking at
+argument_or (Some argument) at = moved at argument
 
 -- one level of a tree, with the arguments in place of the parameters
 abbrev pub given_step : List Tree → Tree-F Tree → Tree
@@ -61,7 +62,8 @@ given_step arguments (Tree-F.Whole value at) = tree.Whole value at
 given_step arguments (Tree-F.Constant value declared at) = tree.Constant value declared at
 given_step arguments (Tree-F.Field field at) = tree.Field field at
 given_step arguments (Tree-F.Resource item at) = tree.Resource item at
-given_step arguments (Tree-F.Parameter parameter at) = argument_or (slice_get arguments parameter) parameter at
+given_step arguments (Tree-F.Parameter parameter at) = argument_or (slice_get arguments parameter) at
+given_step arguments (Tree-F.Lacking at) = tree.Lacking at
 given_step arguments (Tree-F.Indexed item at inner) = tree.Indexed item at inner
 given_step arguments (Tree-F.Access at size address) = tree.Access at size address
 given_step arguments (Tree-F.Join at high low) = tree.Join at high low

@@ -1,6 +1,6 @@
 -- What is known of the items of a description, worked out in their order: first what aliases stand for, then the bodies of
 -- functions.
-use Rattle.std.specs.Prelude.{◌≡◌, ℕ, zero, suc, ◌≤◌, true, List, [], length, Option, Some, None, slice_get}
+use Rattle.std.specs.Prelude.{◌≡◌, ℕ, zero, suc, ◌≤◌, List, [], length, Option, Some, None, slice_get}
 use Rattle.vg_ast.specs.declared.item.Item.{Item}
 use Rattle.vg_ast.specs.declared.desc.Desc.{Desc}
 use Rattle.vg_names.specs.Definition.{Text, item_named}
@@ -14,7 +14,6 @@ use Rattle.vg_inline.specs.declared.effect.Effect.{Effect}
 use Rattle.vg_inline.specs.declared.declared.Declared.TheVariants as type
 use Rattle.vg_inline.specs.InPlace.{Aliases, Templates, Known, alias_of, template_of, behaviour_of, IsKnown}
 use Rattle.vg_inline.specs.Size.{effect_size}
-use Rattle.vg_inline.specs.Calls.{are_full}
 
 abbrev pub no_templates : Templates
 no_templates text = None
@@ -63,9 +62,8 @@ abbrev pub FitsLimit : Option Effect → Type 0
 FitsLimit None = Unit {0}
 FitsLimit (Some effect) = effect_size effect ≤ most_nodes
 
--- where each call has its arguments and no instruction is counted as too large, none is with everything in place
+-- where no instruction is counted as too large, none is with everything in place
 abbrev pub EffectsFit : Type 0
 EffectsFit = (d : Desc) (order : List ℕ) (known : Known) (functions : Functions) → duplicates d ≡ [] → IsOrder d.items order
-    → IsKnown d.items known → are_full d.items ≡ true → AreFunctions d.items known.constants functions
-    → excesses d known.constants functions ≡ []
+    → IsKnown d.items known → AreFunctions d.items known.constants functions → excesses d known.constants functions ≡ []
     → (k : ℕ) (item : Item) → slice_get d.items k ≡ Some item → FitsLimit (behaviour_of d.items known item)

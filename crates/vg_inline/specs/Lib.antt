@@ -5,5 +5,4 @@ pub mod Context
 pub mod Templates
 pub mod Effects
 pub mod Known
-pub mod Calls
 pub mod Behaviours

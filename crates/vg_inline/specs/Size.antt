@@ -25,6 +25,7 @@ weighed_step sizes (Tree-F.Constant value declared at) = 1
 weighed_step sizes (Tree-F.Field field at) = 1
 weighed_step sizes (Tree-F.Resource item at) = 1
 weighed_step sizes (Tree-F.Parameter parameter at) = sizes parameter
+weighed_step sizes (Tree-F.Lacking at) = 0
 weighed_step sizes (Tree-F.Indexed item at arguments) = 1 + sum_of arguments
 weighed_step sizes (Tree-F.Access at width address) = 1 + address
 weighed_step sizes (Tree-F.Join at high low) = 1 + (high + low)

@@ -1,5 +1,6 @@
 ghost use Rattle.std.specs.Prelude.{◌≡◌, map, IfOk, slice_get};
 ghost use Rattle.std.specs.Option.{option_copied};
+ghost use Rattle.vg_inline.specs.declared.tree.Tree.TheVariants.{Lacking as LackingTree};
 ghost use Rattle.vg_inline.specs.InPlace.{argument_or, given as given_of, moved as moved_of};
 ghost use Rattle.vg_inline.specs.Made.{added as added_of, tree_or, within, within_all};
 ghost use Rattle.vg_nodes.specs.Capped.{capped};
@@ -54,6 +55,15 @@ pub fn added(list: Option<MadeList>, made: Option<Made>) -> Result<Option<MadeLi
     }
 }
 
+/// A parameter that gets no argument, which counts nothing.
+#[tactic(auto, using(crate::proofs::Keeping::lacking_kept))]
+fn lacking(alloc: Global, at: usize) -> Result<Option<Made>, AllocError>
+    ensures { IfOk result (λ made. made ≡ within (LackingTree at)) }
+{
+    let tree = Boxed::new(alloc, Tree::Lacking { at })?;
+    Ok(Some(Made { tree, nodes: 0 }))
+}
+
 fn argument_at(arguments: &[Option<Made>], parameter: usize) -> Option<&Option<Made>>
     ensures { option_copied result ≡ slice_get arguments.now parameter }
 {
@@ -67,13 +77,10 @@ fn argument(
     parameter: usize,
     at: usize,
 ) -> Result<Option<Made>, AllocError>
-    ensures { IfOk result (λ made. made ≡ within (argument_or (slice_get (map tree_or arguments.now) parameter) parameter at)) }
+    ensures { IfOk result (λ made. made ≡ within (argument_or (slice_get (map tree_or arguments.now) parameter) at)) }
 {
     match argument_at(arguments, parameter) {
-        None => {
-            let tree = Boxed::new(alloc, Tree::Parameter { parameter, at })?;
-            Ok(Some(Made { tree, nodes: 0 }))
-        }
+        None => lacking(alloc, at),
         Some(made) => copied(alloc, made, at),
     }
 }
@@ -119,6 +126,7 @@ fn given(alloc: Global, tree: &Tree, arguments: &[Option<Made>]) -> Result<Optio
             },
         ),
         Tree::Parameter { parameter, at } => argument(alloc, arguments, *parameter, *at),
+        Tree::Lacking { at } => lacking(alloc, *at),
         Tree::Indexed {
             item,
             at,

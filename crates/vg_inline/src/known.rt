@@ -10,8 +10,7 @@ pub fn only_is_known()
     ensures { OnlyIsKnown }
 {}
 
-/// A law: no instruction is too large with everything in place, where none is counted as too large and each call of a
-/// function has an argument for each parameter.
+/// A law: no instruction is too large with everything in place, where none is counted as too large.
 pub fn effects_fit()
     ensures { EffectsFit }
 {}

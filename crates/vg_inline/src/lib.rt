@@ -11,11 +11,8 @@
 //!
 //! `specs/Known.antt` works out what is known of the items along their order: first what aliases stand for,
 //! then the bodies of functions. That is what is known of them ([`known_is_known`]), and nothing else is
-//! ([`only_is_known`]). Where no instruction is counted as too large, none is with everything in place, if each call in the
-//! body of a function has an argument for each parameter ([`effects_fit`]). Without that it can be: a parameter that gets no
-//! argument stays in the body of the function that calls, as a parameter of that one. With `function g(x : Bits<8>) ->
-//! Bits<8> = x + x` and `function f(a : Bits<8>) -> Bits<8> = g()`, what stands in place of `f(X(1))` is `X(1) + X(1)`, and
-//! one node is counted.
+//! ([`only_is_known`]). Where no instruction is counted as too large, none is with everything in place ([`effects_fit`]).
+//! A parameter that gets no argument is a leaf of its own there (`Tree::Lacking`), which counts nothing.
 //!
 //! [`behaviours`] makes what each instruction does. It takes a description that defines nothing twice, its table of names, an
 //! order in which each item stands behind all that it uses, and what its constants are worth, and gives one [`Effect`] for
@@ -23,8 +20,7 @@
 //! they are used they are copied ([`moved`]). Of a tree that has more than 4,096 nodes nothing is kept (`within` of
 //! `specs/Made.antt`), and a body is weighed with its arguments before it is made, so that no tree becomes much larger than
 //! that. An instruction with an expression that is too large has no effect here. `AreBehaviours` of `specs/Behaviours.antt`
-//! says what is given: what is kept of each instruction, and all of it where no instruction is counted as too large and each
-//! call in the body of a function has an argument for each parameter.
+//! says what is given: what is kept of each instruction, and all of it where no instruction is counted as too large.
 //!
 //! With `function twice(a : Bits<8>) -> Bits<8> = a + a`, in place of `twice(X(1))` stands `X(1) + X(1)`, of five nodes,
 //! and both reads have the places of the uses of `a`.

@@ -33,6 +33,7 @@ pub fn moved(alloc: Global, tree: &Tree, at: usize) -> Result<Boxed<Tree>, Alloc
                 at,
             },
         ),
+        Tree::Lacking { .. } => Boxed::new(alloc, Tree::Lacking { at }),
         Tree::Indexed {
             item,
             arguments,

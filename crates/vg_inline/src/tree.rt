@@ -33,6 +33,10 @@ pub enum Tree {
         parameter: usize,
         at: usize,
     },
+    /// A parameter that gets no argument; a later rule refuses such a call.
+    Lacking {
+        at: usize,
+    },
     /// A register of a register file, by the number of the file's item.
     Indexed {
         item: usize,

@@ -37,6 +37,7 @@ pub fn weigh(tree: &Tree, sizes: &[usize]) -> usize
         Tree::Whole { .. } | Tree::Constant { .. } | Tree::Field { .. } | Tree::Resource { .. } =>
             1,
         Tree::Parameter { parameter, .. } => size_at(sizes, *parameter),
+        Tree::Lacking { .. } => 0,
         Tree::Indexed { arguments, .. } => sum(1, weigh_all(arguments.as_slice(), sizes)),
         Tree::Access { address, .. } => sum(1, weigh(address.get(), sizes)),
         Tree::Join { high, low, .. } => {

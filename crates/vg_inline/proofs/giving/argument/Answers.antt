@@ -3,10 +3,10 @@ use Rattle.std.specs.Prelude.{slice_get}
 use Rattle.vg_inline.proofs.GivenLemmas.{same_made, argument_missing, argument_given}
 use Rattle.vg_inline.proofs.giving.argument.Goals as goal
 
-pub returns-in_ok-tree-in-None : goal.returns-in_ok-tree-in-None
-returns-in_ok-tree-in-None c =
+pub returns-in-None : goal.returns-in-None
+returns-in-None c =
     let none : slice_get c.args.arguments.now c.args.parameter ≡ None = sym c.in-None.ensures in
-    argument_missing c.args.arguments.now c.args.parameter c.args.at c.in_ok-tree-in-None.tree none c.in_ok-tree-in-None.ensures
+    same_made c.lacking.result _ _ (argument_missing c.args.arguments.now c.args.parameter c.args.at none) c.lacking.ensures
 
 pub returns-in-Some : goal.returns-in-Some
 returns-in-Some c =
