@@ -1,7 +1,7 @@
 -- Which rule of names, constants and sizes a description breaks first, and where. The rules are asked in this order:
 -- nothing is defined twice, all names are known, nothing uses itself, no operator leaves the whole numbers, and no
 -- behaviour has too many nodes.
-use Rattle.std.specs.Prelude.{◌≡◌, ℕ, List, [], Some}
+use Rattle.std.specs.Prelude.{◌≡◌, ℕ, List, [], map, Some}
 use Rattle.vg_ast.specs.declared.desc.Desc.{Desc}
 use Rattle.vg_names.specs.Duplicate.{duplicates}
 use Rattle.vg_names.specs.First.{first_of}
@@ -11,6 +11,9 @@ use Rattle.vg_whole.specs.declared.worth.Worth.{Worth}
 use Rattle.vg_whole.specs.Overflow.{overflows}
 use Rattle.vg_whole.specs.Worths.{AreWorths, constants_by}
 use Rattle.vg_nodes.specs.Nodes.{Functions, AreFunctions, excesses}
+use Rattle.vg_inline.specs.declared.in_place.InPlace.{InPlace}
+use Rattle.vg_inline.specs.InPlace.{Known, IsKnown, behaviour_of}
+use Rattle.vg_inline.specs.Context.{aliases_by}
 use Rattle.vg_const.specs.declared.fault.DescFault.{DescFault}
 use Rattle.vg_const.specs.declared.fault.DescFault.TheVariants as faults
 use Rattle.vg_const.specs.declared.plain.Plain.{Plain}
@@ -57,7 +60,16 @@ Breaks d (faults.Limit at) =
     × (first_of (excesses d (constants_by d.items worths) functions) ≡ Some at)
 Breaks d faults.OutOfMemory = ⊥
 
+-- this stands in place of its names: what its aliases stand for, and what its instructions do
+pub record IsInPlace (d : Desc) (worths : List Worth) (in_place : InPlace) : Type 0 where
+  pub known : Known
+  pub is_known : IsKnown d.items known
+  pub constants : known.constants ≡ constants_by d.items worths
+  pub aliases : known.aliases ≡ aliases_by d.items in_place.aliases
+  pub behaviours : in_place.behaviours ≡ map (behaviour_of d.items known) d.items
+
 -- what a description is folded to
 pub record IsFolded (d : Desc) (plain : Plain) : Type 0 where
   pub description : plain.description ≡ d
   pub accepted : IsAccepted d plain.worths
+  pub in_place : IsInPlace d plain.worths plain.in_place

@@ -2,13 +2,14 @@ ghost use Rattle.std.specs.Prelude.{◌≡◌, ◌⊎◌, List, IfOk, IfErr, IsE
 ghost use Rattle.vg_order.specs.Cyclic.{IsOrder};
 ghost use Rattle.vg_whole.specs.declared.worth.Worth.{Worth as TheWorth};
 ghost use Rattle.vg_const.specs.declared.fault.DescFault.{DescFault as TheFault};
-ghost use Rattle.vg_const.specs.Rules.{IsNamed, IsValued, IsAccepted, IsFolded, Breaks};
+ghost use Rattle.vg_const.specs.Rules.{IsNamed, IsValued, IsAccepted, IsInPlace, IsFolded, Breaks};
 
 use crate::fault::DescFault;
 use crate::plain::Plain;
 use sqlite_items::Items;
 use std::alloc::Global;
 use vg_ast::Desc;
+use vg_inline::{InPlace, behaviours};
 use vg_names::{Table, first_duplicate, first_unknown};
 use vg_nodes::first_excess;
 use vg_order::{Order, order_of};
@@ -64,18 +65,39 @@ fn sized(
     Ok(())
 }
 
-/// What the items of a description are worth, where it keeps the rules. Each rule is asked behind those before it.
+/// What stands in place of the names of a description, where the rules of sizes are kept too.
+#[tactic(auto, using(crate::proofs::Placing::in_place))]
+fn placed(
+    alloc: Global,
+    d: &Desc,
+    table: &Table,
+    order: &[usize],
+    worths: &[Worth],
+) -> Result<InPlace, DescFault>
+    requires table { table.now.items.now ≡ d.now.items }
+    requires valued { IsValued d.now order.now worths.now }
+    ensures accepted { IfOk result (λ _. IsAccepted d.now worths.now) }
+    ensures in_place { IfOk result (λ made. IsInPlace d.now worths.now made) }
+    ensures fault { IfErr result (λ f. (f ≡ DescFault.OutOfMemory) ⊎ Breaks d.now f) }
+{
+    sized(alloc, d, table, order, worths)?;
+    Ok(behaviours(alloc, d, table, order, worths)?)
+}
+
+/// What the items of a description are worth, and what stands in place of its names, where it keeps the rules. Each rule
+/// is asked behind those before it.
 #[tactic(auto, using(crate::proofs::Nothing::valued))]
-fn judged(alloc: Global, d: &Desc) -> Result<Items<Worth>, DescFault>
-    ensures accepted { IfOk result (λ worths. IsAccepted d.now worths) }
+fn judged(alloc: Global, d: &Desc) -> Result<(Items<Worth>, InPlace), DescFault>
+    ensures accepted { IfOk result (λ made. IsAccepted d.now made.0) }
+    ensures in_place { IfOk result (λ made. IsInPlace d.now made.0 made.1) }
     ensures fault { IfErr result (λ f. (f ≡ DescFault.OutOfMemory) ⊎ Breaks d.now f) }
 {
     named(alloc, d)?;
     let order = sorted(alloc, d)?;
     let table = Table::new(alloc, d.items.as_slice())?;
     let worths = worths(alloc, d, &table, order.as_slice())?;
-    sized(alloc, d, &table, order.as_slice(), worths.as_slice())?;
-    Ok(worths)
+    let in_place = placed(alloc, d, &table, order.as_slice(), worths.as_slice())?;
+    Ok((worths, in_place))
 }
 
 /// Folds a description, where it keeps the rules.
@@ -83,10 +105,11 @@ fn folded(alloc: Global, d: Desc) -> Result<Plain, DescFault>
     ensures plain { IfOk result (λ plain. IsFolded d plain) }
     ensures fault { IfErr result (λ f. (f ≡ DescFault.OutOfMemory) ⊎ Breaks d f) }
 {
-    let worths = judged(alloc, &d)?;
+    let (worths, in_place) = judged(alloc, &d)?;
     Ok(Plain {
         description: d,
         worths,
+        in_place,
     })
 }
 

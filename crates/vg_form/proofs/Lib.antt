@@ -1,4 +1,5 @@
 pub mod FormTyping
 pub mod FormWrites
+pub mod FormLemmas
 pub mod ShapeLemmas
 pub mod PairLemmas

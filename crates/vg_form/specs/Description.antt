@@ -1,4 +1,4 @@
--- Which descriptions are built so far: those whose trees are as of this text, at any places.
+-- Which descriptions are built so far: those that are this text with everything in place of its names, at any places.
 --
 --     instruction set architecture T = {
 --       program counter PC : Bits<32>
@@ -12,22 +12,17 @@
 --
 -- with any ASCII name, and 1 to 512 pairs of an instruction and its encoding, whose names are ASCII and whose numbers fit
 -- their fields and differ from those of the other pairs. Of other descriptions the first item that isn't so is told.
-use Rattle.std.specs.Prelude.{ℕ, Bool, true, false, ◌&&◌, nat_eq, nat_lt, List, [], ◌∷◌, ◌++◌, codes, Option, Some, None, if◌then◌else◌, zero, suc}
+use Rattle.std.specs.Prelude.{ℕ, Bool, true, false, ◌&&◌, nat_eq, nat_lt, List, [], ◌∷◌, ◌++◌, map, codes, Option, Some, None, if◌then◌else◌, zero, suc}
 use Rattle.std.specs.Str.{bytes_eq}
-use Rattle.std.specs.List.{list_all, list_any}
+use Rattle.std.specs.List.{filter, list_all, list_any}
 use Rattle.vg_ast.specs.declared.expr.Expr.{Expr}
 use Rattle.vg_ast.specs.declared.range.Range.{Range}
 use Rattle.vg_ast.specs.declared.field.Field.{Field}
 use Rattle.vg_ast.specs.declared.fix.Fix.{Fix}
-use Rattle.vg_ast.specs.declared.goal.Goal.{Goal}
-use Rattle.vg_ast.specs.declared.goal.Goal.TheVariants as goals
-use Rattle.vg_ast.specs.declared.statement.Statement.{Statement, fold-Statement}
-use Rattle.vg_ast.specs.declared.statement.Statement.TheOpen.{Statement-F}
 use Rattle.vg_ast.specs.declared.item.Item.{Item}
 use Rattle.vg_ast.specs.declared.item.Item.TheVariants as items
 use Rattle.vg_ast.specs.declared.name.Name.{Name}
 use Rattle.vg_ast.specs.declared.type_expr.TypeExpr.{TypeExpr}
-use Rattle.vg_ast.specs.declared.type_expr.TypeExpr.TheVariants as types
 use Rattle.vg_ast.specs.declared.abi.Abi.{Abi}
 use Rattle.vg_ast.specs.declared.micro.Micro.{Micro}
 use Rattle.vg_ast.specs.declared.desc.Desc.{Desc}
@@ -37,7 +32,17 @@ use Rattle.vg_form.specs.declared.form.Behaviour.{Behaviour}
 use Rattle.vg_form.specs.declared.shape.Shape.{Shape}
 use Rattle.vg_form.specs.declared.shape.Shape.TheVariants as shape
 use Rattle.vg_form.specs.declared.shape.Operand.TheVariants.{Rd}
-use Rattle.vg_form.specs.Shape.{shape_of, is_number, is_bits}
+use Rattle.vg_order.specs.Numbers.{number_named}
+use Rattle.vg_whole.specs.declared.worth.Worth.{Worth}
+use Rattle.vg_whole.specs.declared.worth.Worth.TheVariants.{Whole}
+use Rattle.vg_whole.specs.Whole.{whole_of}
+use Rattle.vg_inline.specs.declared.declared.Declared.{Declared}
+use Rattle.vg_inline.specs.declared.effect.Effect.{Effect, fold-Effect}
+use Rattle.vg_inline.specs.declared.effect.Effect.TheOpen.{Effect-F}
+use Rattle.vg_inline.specs.declared.effect.Target.{Target}
+use Rattle.vg_inline.specs.declared.effect.Target.TheVariants as targets
+use Rattle.vg_inline.specs.InPlace.{Known, declared_type, number_or, behaviour_of}
+use Rattle.vg_form.specs.Shape.{shape_of, is_whole, is_bits}
 
 -- what is found, or the place of the first thing that isn't as the form asks
 pub data Found (X : Type 0) : Type 0 where
@@ -72,69 +77,73 @@ place_of (items.Instruction at name format behaviour) = at
 place_of (items.Encoding at name fixes) = at
 place_of (items.Assembly at name parts) = at
 
-abbrev pub type_shape : TypeExpr Expr → TypeExpr Shape
-type_shape (types.Sized kind at width) = types.Sized kind at (shape_of width)
-type_shape (types.Bool at) = types.Bool at
-type_shape (types.Alias name) = types.Alias name
+-- what numbers outside of statements are worth, and what types stand for
+pub record Values : Type 0 where
+  pub worth : Expr → Worth
+  pub declared : TypeExpr Expr → Declared
+
+-- no inner name is in scope there
+abbrev pub values_of : Known → Values
+values_of known = record { worth = λ e. whole_of known.constants e []; declared = λ t. declared_type known t }
+
+-- an item, and what it does with everything in place, where it is an instruction
+abbrev pub Doing : Type 0
+Doing = Item × Option Effect
 
 -- Bits<n>
-abbrev pub is_word : ℕ → TypeExpr Expr → Bool
-is_word n t = is_bits n (type_shape t)
+abbrev pub is_word : Values → ℕ → TypeExpr Expr → Bool
+is_word values n t = is_bits n (values.declared t)
 
 abbrev pub is_named : Name → List ℕ → Bool
 is_named name text = bytes_eq name.text text
 
 -- program counter PC : Bits<32>
-abbrev pub is_counter : Item → Bool
-is_counter (items.ProgramCounter at name declared) = is_named name (codes "PC") && is_word 32 declared
-is_counter _ = false
+abbrev pub is_counter : Values → Item → Bool
+is_counter values (items.ProgramCounter at name declared) = is_named name (codes "PC") && is_word values 32 declared
+is_counter values _ = false
 
 -- memory MEM : Bits<32> -> Bits<8>
-abbrev pub is_memory : Item → Bool
-is_memory (items.Memory at name address cell) = is_named name (codes "MEM") && is_word 32 address && is_word 8 cell
-is_memory _ = false
+abbrev pub is_memory : Values → Item → Bool
+is_memory values (items.Memory at name address cell) = is_named name (codes "MEM") && is_word values 32 address && is_word values 8 cell
+is_memory values _ = false
 
-abbrev pub is_zero : Option Expr → Bool
-is_zero None = false
-is_zero (Some e) = is_number 0 (shape_of e)
+abbrev pub is_low : Values → ℕ → Option Expr → Bool
+is_low values n None = false
+is_low values n (Some e) = is_whole n (values.worth e)
 
 -- register file X : Bits<5> -> Bits<32> zero 0
-abbrev pub is_file : Item → Bool
-is_file (items.RegisterFile at name index declared constant) = is_named name (codes "X") && is_word 5 index && is_word 32 declared && is_zero constant
-is_file _ = false
+abbrev pub is_file : Values → Item → Bool
+is_file values (items.RegisterFile at name index declared constant) = is_named name (codes "X") && is_word values 5 index && is_word values 32 declared && is_low values 0 constant
+is_file values _ = false
 
-abbrev pub is_low : ℕ → Option Expr → Bool
-is_low n None = false
-is_low n (Some e) = is_number n (shape_of e)
-
-abbrev pub are_ranges : ℕ → ℕ → List Range → Bool
-are_ranges high low (range ∷ []) = is_number high (shape_of range.high) && is_low low range.low
-are_ranges high low _ = false
+abbrev pub are_ranges : Values → ℕ → ℕ → List Range → Bool
+are_ranges values high low (range ∷ []) = is_whole high (values.worth range.high) && is_low values low range.low
+are_ranges values high low _ = false
 
 -- name [high..low]
-abbrev pub is_field : List ℕ → ℕ → ℕ → Field → Bool
-is_field text high low field = is_named field.name text && are_ranges high low field.ranges
+abbrev pub is_field : Values → List ℕ → ℕ → ℕ → Field → Bool
+is_field values text high low field = is_named field.name text && are_ranges values high low field.ranges
 
-abbrev pub are_fields : List Field → Bool
-are_fields (f7 ∷ rs2 ∷ rs1 ∷ f3 ∷ rd ∷ op ∷ []) =
-    is_field (codes "f7") 31 25 f7 && is_field (codes "rs2") 24 20 rs2 && is_field (codes "rs1") 19 15 rs1
-    && is_field (codes "f3") 14 12 f3 && is_field (codes "rd") 11 7 rd && is_field (codes "op") 6 0 op
-are_fields _ = false
+abbrev pub are_fields : Values → List Field → Bool
+are_fields values (f7 ∷ rs2 ∷ rs1 ∷ f3 ∷ rd ∷ op ∷ []) =
+    is_field values (codes "f7") 31 25 f7 && is_field values (codes "rs2") 24 20 rs2 && is_field values (codes "rs1") 19 15 rs1
+    && is_field values (codes "f3") 14 12 f3 && is_field values (codes "rd") 11 7 rd && is_field values (codes "op") 6 0 op
+are_fields values _ = false
 
 -- format R : Bits<32> of those six fields
-abbrev pub is_format : Item → Bool
-is_format (items.Format at name declared fields) = is_named name (codes "R") && is_word 32 declared && are_fields fields
-is_format _ = false
+abbrev pub is_format : Values → Item → Bool
+is_format values (items.Format at name declared fields) = is_named name (codes "R") && is_word values 32 declared && are_fields values fields
+is_format values _ = false
 
 -- what follows an item that is so; where there is no item the closing brace is told
-abbrev pub behind : (Item → Bool) → ℕ → List Item → Found (List Item)
+abbrev pub behind : (Item → Bool) → ℕ → List Doing → Found (List Doing)
 behind is close [] = unlike close
-behind is close (item ∷ more) = if is item then found more else unlike (place_of item)
+behind is close (doing ∷ more) = if is doing.0 then found more else unlike (place_of doing.0)
 
 -- the pairs, behind the declarations
-abbrev pub behind_declarations : ℕ → List Item → Found (List Item)
-behind_declarations close all =
-    behind is_counter close all >>= behind is_memory close >>= behind is_file close >>= behind is_format close
+abbrev pub behind_declarations : Values → ℕ → List Doing → Found (List Doing)
+behind_declarations values close doings =
+    behind (is_counter values) close doings >>= behind (is_memory values) close >>= behind (is_file values) close >>= behind (is_format values) close
 
 -- ---- the pairs
 
@@ -146,50 +155,57 @@ abbrev pub is_rd : Shape → Bool
 is_rd (shape.Field Rd) = true
 is_rd _ = false
 
--- X(rd)
-abbrev pub is_goal : Goal → Bool
-is_goal (goals.Indexed name index) = is_named name (codes "X") && is_rd (shape_of index)
-is_goal _ = false
+-- X(rd), where the register file is the item of this number
+abbrev pub is_target : ℕ → Target → Bool
+is_target file (targets.Indexed item at index) = nat_eq item file && is_rd (shape_of file index)
+is_target file _ = false
 
-abbrev pub behaviour_step : Statement-F (Option Behaviour) → Option Behaviour
-behaviour_step (Statement-F.Assign goal value) = if is_goal goal then value_of (shape_of value) else None
-behaviour_step _ = None
+abbrev pub effect_step : ℕ → Effect-F (Option Behaviour) → Option Behaviour
+effect_step file (Effect-F.Assign target value) = if is_target file target then value_of (shape_of file value) else None
+effect_step file _ = None
 
 -- X(rd) := a value
-abbrev pub behaviour_of : Statement → Option Behaviour
-behaviour_of s = fold-Statement (Option Behaviour) behaviour_step s
+abbrev pub value_written : ℕ → Effect → Option Behaviour
+value_written file x = fold-Effect (Option Behaviour) (effect_step file) x
+
+abbrev pub value_in : ℕ → Option Effect → Option Behaviour
+value_in file None = None
+value_in file (Some x) = value_written file x
+
+-- the number of the register file
+abbrev pub file_of : List Item → ℕ
+file_of all = number_or (number_named all (codes "X"))
 
 abbrev pub named_behaviour : Name → Option Behaviour → Option (Name × Behaviour)
 named_behaviour name None = None
 named_behaviour name (Some behaviour) = Some (name, behaviour)
 
--- an instruction of the format R with an ASCII name
-abbrev pub instruction_of : Item → Option (Name × Behaviour)
-instruction_of (items.Instruction at name format behaviour) =
-    if is_ascii name.text && is_named format (codes "R") then named_behaviour name (behaviour_of behaviour) else None
-instruction_of _ = None
+-- an instruction of the format R with an ASCII name, by what it does
+abbrev pub instruction_of : ℕ → Item → Option Effect → Option (Name × Behaviour)
+instruction_of file (items.Instruction at name format behaviour) effect = if is_ascii name.text && is_named format (codes "R") then named_behaviour name (value_in file effect) else None
+instruction_of file _ effect = None
 
-abbrev pub number_below : ℕ → Shape → Option ℕ
-number_below limit (shape.Number n) = if nat_lt n limit then Some n else None
+abbrev pub number_below : ℕ → Worth → Option ℕ
+number_below limit (Whole n) = if nat_lt n limit then Some n else None
 number_below limit _ = None
 
 -- name = a number below the limit
-abbrev pub fixed : List ℕ → ℕ → Fix → Option ℕ
-fixed text limit fix = if is_named fix.name text then number_below limit (shape_of fix.value) else None
+abbrev pub fixed : Values → List ℕ → ℕ → Fix → Option ℕ
+fixed values text limit fix = if is_named fix.name text then number_below limit (values.worth fix.value) else None
 
 abbrev pub three : Option ℕ → Option ℕ → Option ℕ → Option (ℕ × ℕ × ℕ)
 three (Some f7) (Some f3) (Some op) = Some (f7, f3, op)
 three _ _ _ = None
 
 -- f7 = .., f3 = .., op = ..
-abbrev pub numbers_of : List Fix → Option (ℕ × ℕ × ℕ)
-numbers_of (f7 ∷ f3 ∷ op ∷ []) = three (fixed (codes "f7") 128 f7) (fixed (codes "f3") 8 f3) (fixed (codes "op") 128 op)
-numbers_of _ = None
+abbrev pub numbers_of : Values → List Fix → Option (ℕ × ℕ × ℕ)
+numbers_of values (f7 ∷ f3 ∷ op ∷ []) = three (fixed values (codes "f7") 128 f7) (fixed values (codes "f3") 8 f3) (fixed values (codes "op") 128 op)
+numbers_of values _ = None
 
 -- the encoding of the instruction of this name
-abbrev pub encoding_of : Name → Item → Option (ℕ × ℕ × ℕ)
-encoding_of instruction (items.Encoding at name fixes) = if bytes_eq instruction.text name.text then numbers_of fixes else None
-encoding_of instruction _ = None
+abbrev pub encoding_of : Values → Name → Item → Option (ℕ × ℕ × ℕ)
+encoding_of values instruction (items.Encoding at name fixes) = if bytes_eq instruction.text name.text then numbers_of values fixes else None
+encoding_of values instruction _ = None
 
 -- two encodings with the same three numbers
 abbrev pub same_encoding : Pair → Pair → Bool
@@ -200,24 +216,25 @@ abbrev pub apart : List Pair → ℕ → Pair → Found Pair
 apart front at pair = if list_any (same_encoding pair) front then unlike at else found pair
 
 -- an instruction and its encoding, where these pairs stand in front
-abbrev pub pair_of : List Pair → Item → List Item → Found Pair
-pair_of front item [] = unlike (place_of item)
-pair_of front item (other ∷ more) =
-    found_or (place_of item) (instruction_of item) >>= λ instruction.
-    found_or (place_of other) (encoding_of instruction.0 other) >>= λ numbers.
+abbrev pub pair_of : ℕ → Values → List Pair → Doing → List Doing → Found Pair
+pair_of file values front doing [] = unlike (place_of doing.0)
+pair_of file values front doing (other ∷ more) =
+    found_or (place_of doing.0) (instruction_of file doing.0 doing.1) >>= λ instruction.
+    found_or (place_of other.0) (encoding_of values instruction.0 other.0) >>= λ numbers.
     apart front instruction.0.at (record { name = instruction.0.text; behaviour = instruction.1; f7 = numbers.0; f3 = numbers.1; op = numbers.2 })
 
 -- the pairs up to the end, where these stand in front and so many may follow
-abbrev pub pairs_behind : ℕ → List Pair → List Item → Found (List Pair)
-pairs_behind room front [] = found front
-pairs_behind zero front (item ∷ more) = unlike (place_of item)
-pairs_behind (suc room) front (item ∷ []) = pair_of front item [] >>= λ pair. pairs_behind room (front ++ pair ∷ []) []
-pairs_behind (suc room) front (item ∷ other ∷ more) = pair_of front item (other ∷ more) >>= λ pair. pairs_behind room (front ++ pair ∷ []) more
+abbrev pub pairs_behind : ℕ → Values → ℕ → List Pair → List Doing → Found (List Pair)
+pairs_behind file values room front [] = found front
+pairs_behind file values zero front (doing ∷ more) = unlike (place_of doing.0)
+pairs_behind file values (suc room) front (doing ∷ []) = pair_of file values front doing [] >>= λ pair. pairs_behind file values room (front ++ pair ∷ []) []
+pairs_behind file values (suc room) front (doing ∷ other ∷ more) =
+    pair_of file values front doing (other ∷ more) >>= λ pair. pairs_behind file values room (front ++ pair ∷ []) more
 
 -- one pair or more; where there is none the closing brace is told
-abbrev pub pairs_of : ℕ → List Item → Found (List Pair)
-pairs_of close [] = unlike close
-pairs_of close (item ∷ more) = pairs_behind 512 [] (item ∷ more)
+abbrev pub pairs_of : ℕ → Values → ℕ → List Doing → Found (List Pair)
+pairs_of file values close [] = unlike close
+pairs_of file values close (doing ∷ more) = pairs_behind file values 512 [] (doing ∷ more)
 
 -- ---- the whole
 
@@ -233,10 +250,24 @@ without_micro (Some micro) form = unlike micro.at
 abbrev pub name_of : Name → Found (List ℕ)
 name_of name = if is_ascii name.text then found name.text else unlike name.at
 
--- the form of a description, or the place of the first thing that isn't of the form
-abbrev pub form_of : Desc → Found Form
-form_of d =
+-- constants, aliases and functions are put in place of their names, and declare nothing that is left
+abbrev pub declares : Item → Bool
+declares (items.Constant at name value) = false
+declares (items.Using at name meaning) = false
+declares (items.Function at name parameters result body) = false
+declares _ = true
+
+-- the items that are left, each with what it does
+abbrev pub doings_of : Desc → Known → List Doing
+doings_of d known = map (λ (item : Item). (item, behaviour_of d.items known item)) (filter declares d.items)
+
+abbrev pub form_by : Desc → Values → List Doing → Found Form
+form_by d values doings =
     name_of d.name >>= λ name.
-    behind_declarations d.close d.items >>= λ rest.
-    pairs_of d.close rest >>= λ pairs.
+    behind_declarations values d.close doings >>= λ rest.
+    pairs_of (file_of d.items) values d.close rest >>= λ pairs.
     without_abi d.abi (record { name = name; pairs = pairs }) >>= without_micro d.micro
+
+-- the form of a description with everything in place, or the place of the first thing that isn't of the form
+abbrev pub form_of : Desc → Known → Found Form
+form_of d known = form_by d (values_of known) (doings_of d known)

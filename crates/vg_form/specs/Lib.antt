@@ -3,3 +3,5 @@ pub mod Shape
 pub mod Description
 pub mod Finding
 pub mod Declaration
+pub mod Given
+pub mod Fitting

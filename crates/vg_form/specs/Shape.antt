@@ -1,38 +1,34 @@
--- What expressions are, as far as the form of descriptions asks; all their places are free.
-use Rattle.std.specs.Prelude.{ℕ, Bool, false, nat_eq, List, [], ◌∷◌, codes, Option, Some, None, if◌then◌else◌}
-use Rattle.std.specs.Str.{bytes_eq}
-use Rattle.vg_ast.specs.declared.expr.Expr.{Expr, fold-Expr}
-use Rattle.vg_ast.specs.declared.expr.Expr.TheOpen.{Expr-F}
+-- What trees with everything in place are, as far as the form of descriptions asks; all their places are free.
+use Rattle.std.specs.Prelude.{ℕ, Bool, false, nat_eq, List, [], ◌∷◌, if◌then◌else◌}
 use Rattle.vg_ast.specs.declared.operator.BinaryOperator.{BinaryOperator}
 use Rattle.vg_ast.specs.declared.operator.BinaryOperator.TheVariants as binary
 use Rattle.vg_ast.specs.declared.type_expr.BitsKind.TheVariants as kinds
-use Rattle.vg_ast.specs.declared.type_expr.TypeExpr.{TypeExpr}
-use Rattle.vg_ast.specs.declared.type_expr.TypeExpr.TheVariants as types
+use Rattle.vg_whole.specs.declared.worth.Worth.{Worth}
+use Rattle.vg_whole.specs.declared.worth.Worth.TheVariants.{Whole}
+use Rattle.vg_inline.specs.declared.declared.Declared.{Declared}
+use Rattle.vg_inline.specs.declared.declared.Declared.TheVariants.{Sized}
+use Rattle.vg_inline.specs.declared.tree.Tree.{Tree, fold-Tree}
+use Rattle.vg_inline.specs.declared.tree.Tree.TheOpen.{Tree-F}
 use Rattle.vg_form.specs.declared.form.Behaviour.TheVariants.{AddRegisters, AddField}
 use Rattle.vg_form.specs.declared.shape.Shape.{Shape}
 use Rattle.vg_form.specs.declared.shape.Shape.TheVariants as shape
-use Rattle.vg_form.specs.declared.shape.Operand.{Operand}
 use Rattle.vg_form.specs.declared.shape.Operand.TheVariants.{Rd, Rs1, Rs2}
 
--- rd, rs1 or rs2
-abbrev pub operand_named : List ℕ → Option Operand
-operand_named text =
-    if bytes_eq text (codes "rd") then Some Rd
-    else if bytes_eq text (codes "rs1") then Some Rs1
-    else if bytes_eq text (codes "rs2") then Some Rs2
-    else None
+-- the field of this number in the one format: rd, rs1 or rs2
+abbrev pub field_numbered : ℕ → Shape
+field_numbered field =
+    if nat_eq field 4 then shape.Field Rd
+    else if nat_eq field 2 then shape.Field Rs1
+    else if nat_eq field 1 then shape.Field Rs2
+    else shape.Other
 
-abbrev pub field_or_other : Option Operand → Shape
-field_or_other None = shape.Other
-field_or_other (Some operand) = shape.Field operand
-
-abbrev pub is_number : ℕ → Shape → Bool
-is_number n (shape.Number m) = nat_eq n m
-is_number n _ = false
+abbrev pub is_whole : ℕ → Worth → Bool
+is_whole n (Whole m) = nat_eq n m
+is_whole n _ = false
 
 -- Bits<n>
-abbrev pub is_bits : ℕ → TypeExpr Shape → Bool
-is_bits n (types.Sized kinds.Bits at width) = is_number n width
+abbrev pub is_bits : ℕ → Declared → Bool
+is_bits n (Sized kinds.Bits width) = is_whole n width
 is_bits n _ = false
 
 -- X(field)
@@ -55,14 +51,14 @@ abbrev pub operated : BinaryOperator → Shape → Shape → Shape
 operated binary.Add left right = sum left right
 operated _ left right = shape.Other
 
--- one level of an expression, with its parts
-abbrev pub shape_step : Expr-F Shape → Shape
-shape_step (Expr-F.Number value at) = shape.Number value
-shape_step (Expr-F.Name name) = field_or_other (operand_named name.text)
-shape_step (Expr-F.Call name arguments) = if bytes_eq name.text (codes "X") then indexed arguments else shape.Other
-shape_step (Expr-F.Cast operand at target) = extended (is_bits 32 target) operand
-shape_step (Expr-F.Binary op at left right) = operated op left right
-shape_step _ = shape.Other
+-- one level of a tree, with its parts, where the register file is the item of this number
+abbrev pub shape_step : ℕ → Tree-F Shape → Shape
+shape_step file (Tree-F.Whole value at) = shape.Number value
+shape_step file (Tree-F.Field field at) = field_numbered field
+shape_step file (Tree-F.Indexed item at arguments) = if nat_eq item file then indexed arguments else shape.Other
+shape_step file (Tree-F.Cast operand at target) = extended (is_bits 32 target) operand
+shape_step file (Tree-F.Binary op at left right) = operated op left right
+shape_step file _ = shape.Other
 
-abbrev pub shape_of : Expr → Shape
-shape_of e = fold-Expr Shape shape_step e
+abbrev pub shape_of : ℕ → Tree → Shape
+shape_of file t = fold-Tree Shape (shape_step file) t

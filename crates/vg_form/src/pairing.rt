@@ -3,18 +3,22 @@
 ghost use Rattle.std.specs.Prelude.{◌≡◌, ◌∷◌, [], ◌<◌, IfOk, IfSome, IsTrue};
 ghost use Rattle.std.specs.List.{list_all, list_any};
 ghost use Rattle.vg_form.specs.Form.{fits_fields};
-ghost use Rattle.vg_form.specs.Description.{behaviour_of, encoding_of, fixed, instruction_of, is_ascii, is_goal, is_rd, number_below, numbers_of, pair_of, pairs_behind, pairs_of, same_encoding, value_of};
+ghost use Rattle.vg_form.specs.Description.{effect_step, encoding_of, fixed, instruction_of, is_ascii, is_rd, is_target, number_below, numbers_of, pair_of, pairs_behind, pairs_of, same_encoding, value_in, value_of, value_written};
 ghost use Rattle.vg_form.specs.Finding.{are_fitting, FindsSo, SeesSo};
+ghost use Rattle.vg_form.specs.Given.{all_doing, doing, values_in};
 
 use crate::declaring::place_of;
+use crate::doing::Doing;
 use crate::fault::FormFault;
 use crate::form::{Behaviour, Pair};
 use crate::naming::{is_ascii, is_named, text_of};
 use crate::shape::{Operand, Shape};
 use crate::shaping::shape;
-use sqlite_items::Items;
+use sqlite_items::{Boxed, Items};
 use std::alloc::Global;
-use vg_ast::{Fix, Goal, Item, Name, Statement};
+use vg_ast::{Fix, Item, Name};
+use vg_inline::{Context, Effect, Target, worth_of};
+use vg_whole::Worth;
 
 /// A description has at most so many pairs of an instruction and its encoding.
 const MOST_PAIRS: usize = 512;
@@ -37,47 +41,50 @@ fn is_rd(shape: Shape) -> bool
     }
 }
 
-/// Whether a goal is `X(rd)`.
-fn is_goal(goal: &Goal) -> bool
-    ensures { result ≡ is_goal goal.now }
+/// Whether a target is `X(rd)`, where the register file is the item of this number.
+fn is_target(target: &Target, file: usize) -> bool
+    ensures { result ≡ is_target file target.now }
 {
-    match goal {
-        Goal::Indexed { name, index } => {
-            is_named(name.text.as_slice(), b"X") && is_rd(shape(index.get()))
-        }
-        Goal::Name(_) | Goal::Access { .. } => false,
+    match target {
+        Target::Indexed { item, index, .. } => *item == file && is_rd(shape(index.get(), file)),
+        Target::Resource { .. } | Target::Access { .. } => false,
     }
 }
 
-fn behaviour(statement: &Statement) -> Option<Behaviour>
-    ensures { result ≡ behaviour_of statement.now }
+/// What is written to `X(rd)`.
+fn value_written(effect: &Effect, file: usize) -> Option<Behaviour>
+    ensures { result ≡ value_written file effect.now }
 {
-    match statement {
-        Statement::Assign { goal, value } => {
-            if is_goal(goal) {
-                value_of(shape(value.get()))
+    match effect {
+        Effect::Assign { target, value } => {
+            if is_target(target, file) {
+                value_of(shape(value.get(), file))
             } else {
                 None
             }
         }
-        Statement::Block { .. } | Statement::Let { .. } | Statement::If { .. } => None,
+        Effect::Block { .. } | Effect::If { .. } => None,
+    }
+}
+
+fn behaviour(effect: &Option<Boxed<Effect>>, file: usize) -> Option<Behaviour>
+    ensures { result ≡ value_in file effect.now }
+{
+    match effect {
+        None => None,
+        Some(effect) => value_written(effect.get(), file),
     }
 }
 
 /// The name of an instruction, and what it does.
-fn instruction(item: &Item) -> Option<(&Name, Behaviour)>
-    ensures so { SeesSo (λ x. (x.0.now, x.1)) result (instruction_of item.now) }
+fn instruction<'a>(doing: &Doing<'a>, file: usize) -> Option<(&'a Name, Behaviour)>
+    ensures so { SeesSo (λ x. (x.0.now, x.1)) result (instruction_of file doing.now.item.now doing.now.effect.now) }
     ensures ascii { IfSome result (λ x. IsTrue (is_ascii x.0.now.text)) }
 {
-    match item {
-        Item::Instruction {
-            name,
-            format,
-            behaviour: statement,
-            ..
-        } => {
+    match doing.item {
+        Item::Instruction { name, format, .. } => {
             if is_ascii(name.text.as_slice()) && is_named(format.text.as_slice(), b"R") {
-                let behaviour = behaviour(statement)?;
+                let behaviour = behaviour(doing.effect, file)?;
                 Some((name, behaviour))
             } else {
                 None
@@ -87,44 +94,44 @@ fn instruction(item: &Item) -> Option<(&Name, Behaviour)>
     }
 }
 
-fn number_below(limit: u8, shape: Shape) -> Option<u8>
-    ensures number { result ≡ number_below limit shape }
+fn number_below(limit: u8, worth: Worth) -> Option<u8>
+    ensures number { result ≡ number_below limit worth }
     ensures below { IfSome result (λ n. n < limit) }
 {
-    match shape {
-        Shape::Number(n) => {
+    match worth {
+        Worth::Whole(n) => {
             if n < u128::from(limit) {
                 Some(n as u8)
             } else {
                 None
             }
         }
-        _ => None,
+        Worth::Broken | Worth::Typed => None,
     }
 }
 
 /// The number that a field of this name is fixed to, where it is below the limit.
-fn fixed(name: &[u8], limit: u8, fix: &Fix) -> Option<u8>
-    ensures number { result ≡ fixed name.now limit fix.now }
+fn fixed(name: &[u8], limit: u8, fix: &Fix, context: &Context) -> Option<u8>
+    ensures number { result ≡ fixed (values_in context.now) name.now limit fix.now }
     ensures below { IfSome result (λ n. n < limit) }
 {
     if is_named(fix.name.text.as_slice(), name) {
-        number_below(limit, shape(&fix.value))
+        number_below(limit, worth_of(&fix.value, context))
     } else {
         None
     }
 }
 
 /// The numbers of `f7`, `f3` and `op`.
-fn numbers(fixes: &[Fix]) -> Option<(u8, u8, u8)>
-    ensures numbers { result ≡ numbers_of fixes.now }
+fn numbers(fixes: &[Fix], context: &Context) -> Option<(u8, u8, u8)>
+    ensures numbers { result ≡ numbers_of (values_in context.now) fixes.now }
     ensures fit { IfSome result (λ numbers. IsTrue (are_fitting numbers)) }
 {
     match fixes {
         [f7, f3, op] => {
-            let f7 = fixed(b"f7", 128, f7)?;
-            let f3 = fixed(b"f3", 8, f3)?;
-            let op = fixed(b"op", 128, op)?;
+            let f7 = fixed(b"f7", 128, f7, context)?;
+            let f3 = fixed(b"f3", 8, f3, context)?;
+            let op = fixed(b"op", 128, op, context)?;
             Some((f7, f3, op))
         }
         _ => None,
@@ -132,14 +139,14 @@ fn numbers(fixes: &[Fix]) -> Option<(u8, u8, u8)>
 }
 
 /// The numbers of the encoding of this instruction.
-fn encoding(instruction: &Name, item: &Item) -> Option<(u8, u8, u8)>
-    ensures numbers { result ≡ encoding_of instruction.now item.now }
+fn encoding(instruction: &Name, item: &Item, context: &Context) -> Option<(u8, u8, u8)>
+    ensures numbers { result ≡ encoding_of (values_in context.now) instruction.now item.now }
     ensures fit { IfSome result (λ numbers. IsTrue (are_fitting numbers)) }
 {
     match item {
         Item::Encoding { name, fixes, .. } => {
             if instruction.text.as_slice() == name.text.as_slice() {
-                numbers(fixes.as_slice())
+                numbers(fixes.as_slice(), context)
             } else {
                 None
             }
@@ -161,16 +168,25 @@ fn has_encoding(pairs: &[Pair], pair: &Pair) -> bool
 }
 
 /// An instruction and its encoding, where these pairs stand in front.
-fn pair(alloc: Global, front: &[Pair], item: &Item, other: &Item) -> Result<Pair, FormFault>
-    ensures so { FindsSo (λ pair. pair) result (pair_of front.now item.now (other.now ∷ [])) }
+fn pair(
+    alloc: Global,
+    front: &[Pair],
+    first: &Doing,
+    second: &Doing,
+    file: usize,
+    context: &Context,
+) -> Result<Pair, FormFault>
+    ensures so { FindsSo (λ pair. pair) result (pair_of file (values_in context.now) front.now (doing first.now) (doing second.now ∷ [])) }
     ensures fit { IfOk result (λ pair. IsTrue (fits_fields pair)) }
 {
-    let Some((name, behaviour)) = instruction(item) else {
-        return Err(FormFault::Unlike { at: place_of(item) });
-    };
-    let Some((f7, f3, op)) = encoding(name, other) else {
+    let Some((name, behaviour)) = instruction(first, file) else {
         return Err(FormFault::Unlike {
-            at: place_of(other),
+            at: place_of(first.item),
+        });
+    };
+    let Some((f7, f3, op)) = encoding(name, second.item, context) else {
+        return Err(FormFault::Unlike {
+            at: place_of(second.item),
         });
     };
     let pair = Pair {
@@ -186,36 +202,52 @@ fn pair(alloc: Global, front: &[Pair], item: &Item, other: &Item) -> Result<Pair
     Ok(pair)
 }
 
-/// The pairs up to the end, and at most so many.
-fn pairs_within(alloc: Global, most: usize, items: &[Item]) -> Result<Items<Pair>, FormFault>
-    ensures so { FindsSo (λ pairs. pairs) result (pairs_behind most [] items.now) }
+/// The pairs up to the end, where these stand in front and so many may follow.
+#[tactic(auto, using(crate::proofs::PairLemmas::pairs_more, crate::proofs::PairLemmas::fit_more))]
+fn pairs_behind(
+    alloc: Global,
+    room: usize,
+    front: Items<Pair>,
+    doings: &[Doing],
+    file: usize,
+    context: &Context,
+) -> Result<Items<Pair>, FormFault>
+    requires { IsTrue (list_all fits_fields front) }
+    ensures so { FindsSo (λ pairs. pairs) result (pairs_behind file (values_in context.now) room front (all_doing doings.now)) }
     ensures fit { IfOk result (λ pairs. IsTrue (list_all fits_fields pairs)) }
 {
-    let mut pairs = Items::new(alloc);
-    let mut rest = items;
-    let mut room = most;
-    while let Some((item, behind)) = rest.split_first() {
-        if room == 0 {
-            return Err(FormFault::Unlike { at: place_of(item) });
-        }
-        let Some((other, more)) = behind.split_first() else {
-            return Err(FormFault::Unlike { at: place_of(item) });
-        };
-        let pair = pair(alloc, pairs.as_slice(), item, other)?;
-        pairs.push(pair)?;
-        rest = more;
-        room -= 1;
+    let Some((first, behind)) = doings.split_first() else {
+        return Ok(front);
+    };
+    if room == 0 {
+        return Err(FormFault::Unlike {
+            at: place_of(first.item),
+        });
     }
-    Ok(pairs)
+    let Some((second, more)) = behind.split_first() else {
+        return Err(FormFault::Unlike {
+            at: place_of(first.item),
+        });
+    };
+    let pair = pair(alloc, front.as_slice(), first, second, file, context)?;
+    let mut pairs = front;
+    pairs.push(pair)?;
+    pairs_behind(alloc, room - 1, pairs, more, file, context)
 }
 
 /// One pair or more.
-pub(crate) fn pairs(alloc: Global, close: usize, items: &[Item]) -> Result<Items<Pair>, FormFault>
-    ensures so { FindsSo (λ pairs. pairs) result (pairs_of close items.now) }
+pub(crate) fn pairs(
+    alloc: Global,
+    close: usize,
+    doings: &[Doing],
+    file: usize,
+    context: &Context,
+) -> Result<Items<Pair>, FormFault>
+    ensures so { FindsSo (λ pairs. pairs) result (pairs_of file (values_in context.now) close (all_doing doings.now)) }
     ensures fit { IfOk result (λ pairs. IsTrue (list_all fits_fields pairs)) }
 {
-    if items.is_empty() {
+    if doings.is_empty() {
         return Err(FormFault::Unlike { at: close });
     }
-    pairs_within(alloc, MOST_PAIRS, items)
+    pairs_behind(alloc, MOST_PAIRS, Items::new(alloc), doings, file, context)
 }

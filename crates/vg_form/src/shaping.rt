@@ -1,36 +1,26 @@
-//! The shapes of expressions.
+//! The shapes of trees.
 
-ghost use Rattle.std.specs.Prelude.{◌≡◌, bytes_eq, codes, if◌then◌else◌, map};
-ghost use Rattle.vg_form.specs.Shape.{extended, field_or_other, indexed, is_number, operand_named, operated, shape_of, sum};
-ghost use Rattle.vg_form.specs.Description.{is_word};
+ghost use Rattle.std.specs.Prelude.{◌≡◌, nat_eq, if◌then◌else◌, map};
+ghost use Rattle.vg_form.specs.Shape.{extended, field_numbered, indexed, operated, shape_of, sum};
 
+use crate::declaring::is_bits;
 use crate::form::Behaviour;
-use crate::naming::is_named;
 use crate::shape::{Operand, Shape};
-use sqlite_items::Boxed;
-use vg_ast::{BinaryOperator, BitsKind, Expr, TypeExpr};
+use vg_ast::BinaryOperator;
+use vg_inline::Tree;
 
-/// The field of this name.
-fn named(text: &[char]) -> Shape
-    ensures { result ≡ field_or_other (operand_named text.now) }
+/// The field of this number in the one format.
+fn numbered(field: usize) -> Shape
+    ensures { result ≡ field_numbered field }
 {
-    if is_named(text, b"rd") {
+    if field == 4 {
         Shape::Field(Operand::Rd)
-    } else if is_named(text, b"rs1") {
+    } else if field == 2 {
         Shape::Field(Operand::Rs1)
-    } else if is_named(text, b"rs2") {
+    } else if field == 1 {
         Shape::Field(Operand::Rs2)
     } else {
         Shape::Other
-    }
-}
-
-pub(crate) fn is_number(number: u128, shape: Shape) -> bool
-    ensures { result ≡ is_number number shape }
-{
-    match shape {
-        Shape::Number(other) => number == other,
-        _ => false,
     }
 }
 
@@ -73,65 +63,56 @@ fn operated(operator: BinaryOperator, left: Shape, right: Shape) -> Shape
     }
 }
 
-/// What an expression is, as far as the form asks.
+/// What a tree is, as far as the form asks, where the register file is the item of this number.
 #[cycle(shape)]
-#[tactic(auto, using(crate::proofs::ShapeLemmas::shape_of_call))]
-pub(crate) fn shape(e: &Expr) -> Shape
-    ensures { result ≡ shape_of e.now }
+#[tactic(auto, using(crate::proofs::ShapeLemmas::shape_of_indexed))]
+pub(crate) fn shape(tree: &Tree, file: usize) -> Shape
+    ensures { result ≡ shape_of file tree.now }
 {
-    match e {
-        Expr::Number { value, .. } => Shape::Number(*value),
-        Expr::Name(name) => named(name.text.as_slice()),
-        Expr::Call { name, arguments } => register(name.text.as_slice(), arguments.as_slice()),
-        Expr::Cast {
+    match tree {
+        Tree::Whole { value, .. } => Shape::Number(*value),
+        Tree::Field { field, .. } => numbered(*field),
+        Tree::Indexed {
+            item,
+            arguments,
+            ..
+        } => register(arguments.as_slice(), *item, file),
+        Tree::Cast {
             operand,
             target,
             ..
-        } => extended(is_cast_to_word(target), shape(operand.get())),
-        Expr::Binary {
+        } => extended(is_bits(32, *target), shape(operand.get(), file)),
+        Tree::Binary {
             operator,
             left,
             right,
             ..
-        } => operated(*operator, shape(left.get()), shape(right.get())),
-        Expr::Access { .. }
-        | Expr::Join { .. }
-        | Expr::Parentheses { .. }
-        | Expr::Unary { .. }
-        | Expr::Slice { .. }
-        | Expr::If { .. }
-        | Expr::Let { .. } => Shape::Other,
+        } => operated(*operator, shape(left.get(), file), shape(right.get(), file)),
+        Tree::Constant { .. }
+        | Tree::Resource { .. }
+        | Tree::Parameter { .. }
+        | Tree::Lacking { .. }
+        | Tree::Access { .. }
+        | Tree::Join { .. }
+        | Tree::Unary { .. }
+        | Tree::Slice { .. }
+        | Tree::If { .. } => Shape::Other,
     }
 }
 
-/// The register that a call of this name stands for.
+/// The register of the item of this number.
 #[cycle(shape)]
-fn register(name: &[char], arguments: &[Expr]) -> Shape
-    ensures { result ≡ if bytes_eq name.now (codes "X") then indexed (map shape_of arguments.now) else Shape.Other }
+fn register(arguments: &[Tree], item: usize, file: usize) -> Shape
+    ensures { result ≡ if nat_eq item file then indexed (map (shape_of file) arguments.now) else Shape.Other }
 {
-    if !is_named(name, b"X") {
+    if item != file {
         return Shape::Other;
     }
     match arguments {
-        [argument] => match shape(argument) {
+        [argument] => match shape(argument, file) {
             Shape::Field(operand) => Shape::Register(operand),
             _ => Shape::Other,
         },
         _ => Shape::Other,
-    }
-}
-
-/// Whether the type of a cast is `Bits<32>`.
-#[cycle(shape)]
-fn is_cast_to_word(target: &TypeExpr<Boxed<Expr>>) -> bool
-    ensures { result ≡ is_word 32 target.now }
-{
-    match target {
-        TypeExpr::Sized {
-            kind: BitsKind::Bits,
-            width,
-            ..
-        } => is_number(32, shape(width.get())),
-        _ => false,
     }
 }

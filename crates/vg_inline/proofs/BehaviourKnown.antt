@@ -1,5 +1,5 @@
 -- What is made of instructions is what is kept of what they do, and all of it where they aren't too large.
-use Rattle.std.proofs.Common.{◌≡◌, ℕ, zero, suc, true, List, [], ◌∷◌, length, map, Option, Some, None, refl, ap, subst, ◌∙◌}
+use Rattle.std.proofs.Common.{◌≡◌, ℕ, zero, suc, true, List, [], ◌∷◌, length, map, Option, Some, None, refl, sym, ap, subst, ◌∙◌}
 use Rattle.std.specs.Prelude.{slice_get}
 use Rattle.std.specs.Option.{option_map}
 use Rattle.vg_ast.specs.declared.desc.Desc.{Desc}
@@ -83,10 +83,18 @@ module _ (d : Desc) (order : List ℕ) (worths : List Worth) (distinct : duplica
       map_at (behaviour_kept d.items known) (behaviour_of d.items known) d.items
       (λ k item at. fitting (behaviour_of d.items known item) (counts.effects_fit d order known functions distinct is known_so right none k item at))
 
+  constants_known : (known_by d.items C order).constants ≡ C
+  unfolding known_by
+  constants_known = refl
+
+  aliases_known : (known_by d.items C order).aliases ≡ A
+  unfolding known_by
+  aliases_known = refl
+
   -- so they are, worked out with these aliases
   pub are_behaviours : (all : List Item) (list read : List Declared) (effects : List (Option Effect)) → all ≡ d.items → read ≡ list → aliases_by d.items list ≡ A
       → effects ≡ map (behaviour_kept all (known_with all (constants_by all worths) (aliases_by all read) (worked_along all (constants_by all worths) (aliases_by all read) order (nothing_worked_out all)))) all
-      → AreBehaviours d effects
+      → AreBehaviours d worths (record { aliases = list; behaviours = effects })
   are_behaviours all list read effects whole same_list right made =
       let here : effects ≡ map (behaviour_kept d.items (known_with d.items C (aliases_by d.items read) (worked_along d.items C (aliases_by d.items read) order (nothing_worked_out d.items)))) d.items =
       subst
@@ -99,6 +107,8 @@ module _ (d : Desc) (order : List ℕ) (worths : List Worth) (distinct : duplica
       record {
         known = known_by d.items C order;
         is_known = is_known;
+        constants = constants_known;
+        aliases = aliases_known ∙ sym right;
         kept = kept;
         whole = λ functions right none. kept ∙ all_whole (known_by d.items C order) functions is_known right none;
       }

@@ -24,7 +24,7 @@ mod KnownOrder
 mod KnownAlike
 mod KnownTypes
 mod KnownSettled
-mod KnownOnly
+pub mod KnownOnly
 mod KnownAliases
 mod KnownCounts
 mod KnownKept

@@ -17,7 +17,7 @@ use crate::made::Made;
 use crate::names::Names;
 use crate::stating::state;
 use crate::templates::templates;
-use crate::{Declared, Effect};
+use crate::{Declared, Effect, InPlace};
 use sqlite_items::{Boxed, Items};
 use std::alloc::{AllocError, Global};
 use vg_ast::{Desc, Item, Name};
@@ -104,21 +104,24 @@ fn behaviours_along(
     behaviours_with(alloc, table, worths, aliases, templates.as_slice())
 }
 
-/// What each instruction does, with everything in place of its names: one for each item, None for items that are no
-/// instructions.
+/// What aliases stand for and what each instruction does, with everything in place of their names.
 pub fn behaviours(
     alloc: Global,
     description: &Desc,
     table: &Table,
     order: &[usize],
     worths: &[Worth],
-) -> Result<Items<Option<Boxed<Effect>>>, AllocError>
+) -> Result<InPlace, AllocError>
     requires distinct { duplicates description.now ≡ [] }
     requires table { table.now.items.now ≡ description.now.items }
     requires order { IsOrder description.now.items order.now }
     requires worths { AreWorths description.now.items worths.now }
-    ensures { IfOk result (AreBehaviours description.now) }
+    ensures { IfOk result (AreBehaviours description.now worths.now) }
 {
     let aliases = aliases(alloc, description, table, order, worths)?;
-    behaviours_along(alloc, table, order, worths, aliases.as_slice())
+    let behaviours = behaviours_along(alloc, table, order, worths, aliases.as_slice())?;
+    Ok(InPlace {
+        aliases,
+        behaviours,
+    })
 }

@@ -15,12 +15,13 @@
 //! A parameter that gets no argument is a leaf of its own there (`Tree::Lacking`), which counts nothing.
 //!
 //! [`behaviours`] makes what each instruction does. It takes a description that defines nothing twice, its table of names, an
-//! order in which each item stands behind all that it uses, and what its constants are worth, and gives one [`Effect`] for
-//! each instruction, unless memory ends. Aliases and the bodies of functions are worked out along the order, each once; where
-//! they are used they are copied ([`moved`]). Of a tree that has more than 4,096 nodes nothing is kept (`within` of
-//! `specs/Made.antt`), and a body is weighed with its arguments before it is made, so that no tree becomes much larger than
-//! that. An instruction with an expression that is too large has no effect here. `AreBehaviours` of `specs/Behaviours.antt`
-//! says what is given: what is kept of each instruction, and all of it where no instruction is counted as too large.
+//! order in which each item stands behind all that it uses, and what its constants are worth, and gives [`InPlace`]: what
+//! each alias stands for, and one [`Effect`] for each instruction, unless memory ends. Aliases and the bodies of functions
+//! are worked out along the order, each once; where they are used they are copied ([`moved`]). Of a tree that has more than
+//! 4,096 nodes nothing is kept (`within` of `specs/Made.antt`), and a body is weighed with its arguments before it is made,
+//! so that no tree becomes much larger than that. An instruction with an expression that is too large has no effect here.
+//! `AreBehaviours` of `specs/Behaviours.antt` says what is given: what aliases stand for, what is kept of each instruction,
+//! and all of it where no instruction is counted as too large.
 //!
 //! With `function twice(a : Bits<8>) -> Bits<8> = a + a`, in place of `twice(X(1))` stands `X(1) + X(1)`, of five nodes,
 //! and both reads have the places of the uses of `a`.
@@ -36,6 +37,7 @@ mod effect_level;
 mod find;
 mod found;
 mod giving;
+mod in_place;
 mod inlined;
 mod inlining;
 mod known;
@@ -44,6 +46,7 @@ mod level;
 mod made;
 mod moving;
 mod names;
+mod number;
 mod placing;
 mod stating;
 mod templates;
@@ -51,10 +54,14 @@ mod tree;
 mod weighing;
 mod whole;
 
+pub use context::Context;
 pub use declared::Declared;
 pub use effect::{Effect, Target};
+pub use in_place::InPlace;
 pub use inlining::behaviours;
 pub use known::{effects_fit, known_is_known, only_is_known};
 pub use laws::nodes_are_counted;
 pub use moving::moved;
+pub use number::worth_of;
 pub use tree::Tree;
+pub use whole::declared_type;

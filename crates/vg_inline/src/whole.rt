@@ -25,7 +25,7 @@ fn name_worth(text: &[char], bindings: &Bindings, context: &Context) -> Worth
 
 /// What an expression in a declared type is worth.
 #[tactic(auto, using(vg_whole::proofs::JudgedLemmas::judged_steps))]
-fn whole(e: &Expr, bindings: &Bindings, context: &Context) -> Worth
+pub fn whole(e: &Expr, bindings: &Bindings, context: &Context) -> Worth
     ensures { result ≡ whole_of (constants_of context.now) e.now (binding_worths bindings.now) }
 {
     match e {

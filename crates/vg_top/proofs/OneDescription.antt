@@ -11,6 +11,8 @@ use Rattle.vg_whole.specs.declared.worth.Worth.{Worth}
 use Rattle.vg_const.specs.declared.fault.DescFault.{DescFault}
 use Rattle.vg_const.specs.declared.fault.DescFault.TheVariants as faults
 use Rattle.vg_const.specs.Rules.{IsAccepted, Breaks}
+use Rattle.vg_inline.specs.InPlace.{Known, IsKnown}
+use Rattle.vg_inline.proofs.KnownOnly.{only_is_known}
 use Rattle.vg_const.proofs.OneFault as folding
 use Rattle.vg_isa.specs.declared.isa.Parts.{Parts}
 use Rattle.vg_form.specs.declared.form.Form.{Form}
@@ -98,12 +100,25 @@ module _ (bytes : List ℕ) where
   pub unbuilt_or_broken : (at : ℕ) (r : Rule) (a : ℕ) → IsUnbuilt bytes at → IsBroken bytes r a → ⊥
   unbuilt_or_broken at r a h x = accepted_or_broken h.tree h.worths r a h.has_tree h.accepted x
 
+  known_once : (t : Desc) (worths : List Worth) (a b : Known) → IsAccepted t worths → IsKnown t.items a → IsKnown t.items b → a ≡ b
+  known_once t worths a b accepted x y =
+      let sorted = accepted.2.measured.whole.acyclic in only_is_known t accepted.0 a b sorted.named.distinct sorted.sorted x y
+
+  one_form : (s t : Desc) (worths : List Worth) (a b : Known) → HasTree bytes s → HasTree bytes t → IsAccepted s worths → IsKnown s.items a → IsKnown t.items b → form_of s a ≡ form_of t b
+  one_form s t worths a b has also accepted x y =
+      ap (form_of s) (known_once s worths a b accepted x (subst (λ (d : Desc). IsKnown d.items b) (one_tree t s also has) y))
+      ∙ ap (λ (d : Desc). form_of d b) (one_tree s t has also)
+
   pub one_description : (d e : Parts) → IsDescription bytes d → IsDescription bytes e → d ≡ e
   one_description d e x y =
-      x.parts ∙ ap parts_of (ap (found_or x.form) (sym x.built ∙ ap form_of (one_tree x.tree y.tree x.has_tree y.has_tree) ∙ y.built)) ∙ sym y.parts
+      x.built.parts
+      ∙ ap parts_of (ap (found_or x.built.form) (sym x.built.built ∙ one_form x.tree y.tree x.worths x.built.known y.built.known x.has_tree y.has_tree x.accepted x.built.is_known y.built.is_known ∙ y.built.built))
+      ∙ sym y.built.parts
 
   pub one_unbuilt : (a b : ℕ) → IsUnbuilt bytes a → IsUnbuilt bytes b → a ≡ b
-  one_unbuilt a b x y = ap (place_or a) (sym x.unbuilt ∙ ap form_of (one_tree x.tree y.tree x.has_tree y.has_tree) ∙ y.unbuilt)
+  one_unbuilt a b x y =
+      ap (place_or a) (sym x.unbuilt.unlike_at ∙ one_form x.tree y.tree x.worths x.unbuilt.known y.unbuilt.known x.has_tree y.has_tree x.accepted x.unbuilt.is_known y.unbuilt.is_known ∙ y.unbuilt.unlike_at)
 
   pub described_or_unbuilt : (d : Parts) (a : ℕ) → IsDescription bytes d → IsUnbuilt bytes a → ⊥
-  described_or_unbuilt d a x y = subst is_found (sym x.built ∙ ap form_of (one_tree x.tree y.tree x.has_tree y.has_tree) ∙ y.unbuilt) tt
+  described_or_unbuilt d a x y =
+      subst is_found (sym x.built.built ∙ one_form x.tree y.tree x.worths x.built.known y.unbuilt.known x.has_tree y.has_tree x.accepted x.built.is_known y.unbuilt.is_known ∙ y.unbuilt.unlike_at) tt

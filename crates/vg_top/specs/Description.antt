@@ -13,6 +13,7 @@ use Rattle.vg_whole.specs.declared.worth.Worth.{Worth}
 use Rattle.vg_const.specs.declared.fault.DescFault.{DescFault}
 use Rattle.vg_const.specs.declared.fault.DescFault.TheVariants as faults
 use Rattle.vg_const.specs.Rules.{IsAccepted, Breaks}
+use Rattle.vg_inline.specs.InPlace.{Known, IsKnown}
 use Rattle.vg_isa.specs.declared.isa.Parts.{Parts}
 use Rattle.vg_form.specs.declared.form.Form.{Form}
 use Rattle.vg_form.specs.Form.{parts_of}
@@ -28,15 +29,27 @@ pub record HasTree (bytes : List ℕ) (tree : Desc) : Type 0 where
   pub lexes : Lexes bytes tokens
   pub reads : Reads tokens tree
 
+-- with everything in place of its names the tree is of the form of these parts
+pub record IsBuilt (tree : Desc) (d : Parts) : Type 0 where
+  pub known : Known
+  pub is_known : IsKnown tree.items known
+  pub form : Form
+  pub built : form_of tree known ≡ found form
+  pub parts : d ≡ parts_of form
+
+-- with everything in place of its names this is the place of the first thing in the tree that isn't of the form
+pub record IsUnlike (tree : Desc) (at : ℕ) : Type 0 where
+  pub known : Known
+  pub is_known : IsKnown tree.items known
+  pub unlike_at : form_of tree known ≡ unlike at
+
 -- the text keeps all rules, and is the description of these parts
 pub record IsDescription (bytes : List ℕ) (d : Parts) : Type 0 where
   pub tree : Desc
   pub has_tree : HasTree bytes tree
   pub worths : List Worth
   pub accepted : IsAccepted tree worths
-  pub form : Form
-  pub built : form_of tree ≡ found form
-  pub parts : d ≡ parts_of form
+  pub built : IsBuilt tree d
 
 -- the text keeps all rules, and the first thing in it that isn't built yet is here
 pub record IsUnbuilt (bytes : List ℕ) (at : ℕ) : Type 0 where
@@ -44,7 +57,7 @@ pub record IsUnbuilt (bytes : List ℕ) (at : ℕ) : Type 0 where
   pub has_tree : HasTree bytes tree
   pub worths : List Worth
   pub accepted : IsAccepted tree worths
-  pub unbuilt : form_of tree ≡ unlike at
+  pub unbuilt : IsUnlike tree at
 
 abbrev pub place_of : TokFault → ℕ
 place_of (token_faults.NotUtf8 at) = at

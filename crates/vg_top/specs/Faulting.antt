@@ -1,14 +1,14 @@
 -- How the faults of the readers become faults of a text.
-use Rattle.std.specs.Prelude.{◌≡◌, ⊤}
+use Rattle.std.specs.Prelude.{⊤}
 use Rattle.vg_tok.specs.declared.fault.TokFault.{TokFault}
 use Rattle.vg_tok.specs.declared.fault.TokFault.TheVariants as token_faults
 use Rattle.vg_ast.specs.declared.desc.Desc.{Desc}
 use Rattle.vg_const.specs.declared.fault.DescFault.{DescFault}
 use Rattle.vg_const.specs.declared.fault.DescFault.TheVariants as faults
-use Rattle.vg_form.specs.Description.{form_of, unlike}
 use Rattle.vg_top.specs.declared.rule.Rule.TheVariants as rules
 use Rattle.vg_top.specs.declared.description_fault.DescriptionFault.{DescriptionFault}
 use Rattle.vg_top.specs.declared.description_fault.DescriptionFault.TheVariants as why
+use Rattle.vg_top.specs.Description.{IsUnlike}
 
 abbrev pub token_fault_of : TokFault → DescriptionFault
 token_fault_of (token_faults.NotUtf8 at) = why.Broken rules.Syntax at
@@ -27,5 +27,5 @@ fold_fault_of faults.OutOfMemory = why.OutOfMemory
 -- a tree isn't of the form, or memory ran out
 abbrev pub IsBuildFault : Desc → DescriptionFault → Type 0
 IsBuildFault tree (why.Broken rule at) = ⊥
-IsBuildFault tree (why.NotBuilt at) = form_of tree ≡ unlike at
+IsBuildFault tree (why.NotBuilt at) = IsUnlike tree at
 IsBuildFault tree why.OutOfMemory = ⊤

@@ -3,10 +3,7 @@ ghost use Rattle.vg_tok.specs.Lexing.{Lexes};
 ghost use Rattle.vg_ast.specs.Description.{Reads};
 ghost use Rattle.vg_iss.specs.Kept.{is_memory_free};
 ghost use Rattle.vg_const.specs.Rules.{IsFolded};
-ghost use Rattle.vg_form.specs.declared.form.Form.{Form};
-ghost use Rattle.vg_form.specs.Form.{parts_of};
-ghost use Rattle.vg_form.specs.Description.{form_of, found};
-ghost use Rattle.vg_top.specs.Description.{HasTree, IsDescription, IsFaultOf};
+ghost use Rattle.vg_top.specs.Description.{HasTree, IsBuilt, IsUnlike, IsDescription, IsFaultOf};
 ghost use Rattle.vg_top.specs.Faulting.{token_fault_of, fold_fault_of, IsBuildFault};
 
 use crate::description_fault::DescriptionFault;
@@ -96,13 +93,30 @@ fn folded(alloc: Global, tree: Desc) -> Result<Plain, DescriptionFault>
     }
 }
 
+/// The processor of a folded description, or the place of the first thing that isn't built yet.
+fn isa_of_plain(alloc: Global, plain: &Plain) -> Result<Isa, FormFault>
+    requires folded { IsFolded plain.now.description plain.now }
+    ensures isa { IfOk result (λ isa. IsBuilt plain.now.description isa) }
+    ensures memory_free { IfOk result (λ isa. IsTrue (is_memory_free isa)) }
+    ensures fault { IfErr result (λ f. (f ≡ FormFault.OutOfMemory) ⊎ ((at : ℕ) × (f ≡ FormFault.Unlike at) × IsUnlike plain.now.description at)) }
+{
+    isa_of(
+        alloc,
+        &plain.description,
+        plain.worths.as_slice(),
+        plain.in_place.aliases.as_slice(),
+        plain.in_place.behaviours.as_slice(),
+    )
+}
+
 /// The processor of a folded description.
 fn built(alloc: Global, plain: &Plain) -> Result<Isa, DescriptionFault>
-    ensures isa { IfOk result (λ isa. (form : Form) × (form_of plain.now.description ≡ found form) × (isa ≡ parts_of form)) }
+    requires folded { IsFolded plain.now.description plain.now }
+    ensures isa { IfOk result (λ isa. IsBuilt plain.now.description isa) }
     ensures memory_free { IfOk result (λ isa. IsTrue (is_memory_free isa)) }
     ensures fault { IfErr result (λ fault. IsBuildFault plain.now.description fault) }
 {
-    match isa_of(alloc, &plain.description) {
+    match isa_of_plain(alloc, plain) {
         Ok(isa) => Ok(isa),
         Err(FormFault::Unlike { at }) => Err(DescriptionFault::NotBuilt { at }),
         Err(FormFault::OutOfMemory) => Err(DescriptionFault::OutOfMemory),
@@ -110,7 +124,7 @@ fn built(alloc: Global, plain: &Plain) -> Result<Isa, DescriptionFault>
 }
 
 /// The processor that a text describes, or why there is none.
-#[tactic(auto, using(crate::proofs::Described::described, crate::proofs::Described::build_faulty))]
+#[tactic(auto, using(crate::proofs::Described::folded_itself, crate::proofs::Described::described, crate::proofs::Described::build_faulty))]
 pub(crate) fn description_of(alloc: Global, text: &[u8]) -> Result<Isa, DescriptionFault>
     ensures isa { IfOk result (λ isa. IsDescription text.now isa) }
     ensures memory_free { IfOk result (λ isa. IsTrue (is_memory_free isa)) }
