@@ -96,7 +96,7 @@ class Hidden:
     def type(self, width, depth=2):
         if depth == 0 or self.draw.randrange(2):
             return "Bits<%s>" % self.number(width, 1)
-        name = self.fresh("T")
+        name = self.fresh("Alias")
         self.items.append("using %s = %s" % (name, self.type(width, depth - 1)))
         return name
 
