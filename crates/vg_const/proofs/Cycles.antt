@@ -1,16 +1,17 @@
 -- Where there is an order nothing uses itself, and at most one item is the first that uses itself.
 use Rattle.std.proofs.Common.{◌≡◌, ℕ, suc, ◌<◌, ◌≤◌, ◌⊎◌, inl, inr, Bool, true, false, ◌&&◌, List, [], ◌∷◌, ◌++◌, length, Option, Some, None, refl, sym, ap, subst, ◌∙◌, arith, true≢false, if◌then◌else◌}
 use Rattle.std.specs.Prelude.{slice_get}
+use Rattle.std.proofs.lemmas.Bool.{and_parts}
 use Rattle.vg_ast.specs.declared.name.Name.{Name}
 use Rattle.vg_ast.specs.declared.item.Item.{Item}
 use Rattle.vg_ast.specs.declared.desc.Desc.{Desc}
 use Rattle.vg_names.specs.Definition.{Text, item_named, is_among}
 use Rattle.vg_names.specs.Duplicate.{duplicates}
+use Rattle.vg_names.proofs.Texts.{among_cases}
 use Rattle.vg_order.specs.Uses.{uses_of}
 use Rattle.vg_order.specs.Cyclic.{replaced_name, is_replaced, Uses, Reaches, directly, through, IsCyclic, NoneIsCyclic, IsFirstCyclic, text_of, names_of, may_follow, is_order_behind, IsOrder}
 use Rattle.vg_order.proofs.Lookups.{user_replaced}
-use Rattle.vg_nodes.proofs.Fixed.{among_cases, own_item}
-use Rattle.vg_const.proofs.Ordered.{both_left, both_right, in_order, used_before}
+use Rattle.vg_order.proofs.Ordered.{own_item, replaced_ordered, used_before}
 
 -- how many stand in an order from a name on
 abbrev standing_from : List Item → List ℕ → Text → ℕ
@@ -53,7 +54,7 @@ module _ (d : Desc) (distinct : duplicates d ≡ []) (a b : Text) (usage : Uses 
       by again (Some item) at h e = cases (is_among a (text_of (Some item))) refl
         where
           follows : may_follow d.items front (Some item) ≡ true
-          follows = both_left (may_follow d.items front (Some item)) (is_order_behind d.items (text_of (Some item) ++ front) ks) h
+          follows = (and_parts (may_follow d.items front (Some item)) (is_order_behind d.items (text_of (Some item) ++ front) ks) h).0
 
           cases : (x : Bool) → is_among a (text_of (Some item)) ≡ x
               → Precedes front (if is_among a (text_of (Some item)) then suc (length ks) else standing_from d.items ks a) (if is_among b (text_of (Some item)) then suc (length ks) else standing_from d.items ks b)
@@ -66,7 +67,7 @@ module _ (d : Desc) (distinct : duplicates d ≡ []) (a b : Text) (usage : Uses 
               let le = at_most_all d.items ks a in
               let x = is_among a (text_of (Some item)) in
               let y = is_among b (text_of (Some item)) in
-              elim (again (text_of (Some item) ++ front) (both_right (may_follow d.items front (Some item)) (is_order_behind d.items (text_of (Some item) ++ front) ks) h) rest) [
+              elim (again (text_of (Some item) ++ front) (and_parts (may_follow d.items front (Some item)) (is_order_behind d.items (text_of (Some item) ++ front) ks) h).1 rest) [
                 | inl before ↦ among_cases (Precedes front (if is_among a (text_of (Some item)) then suc (length ks) else standing_from d.items ks a) (if is_among b (text_of (Some item)) then suc (length ks) else standing_from d.items ks b))
                     b (text_of (Some item)) front (λ here. inr (first_longer x y (standing_from d.items ks a) (standing_from d.items ks b) (length ks) other le here)) (λ there. inl there) before
                 | inr lt ↦ inr (still_longer x y (standing_from d.items ks a) (standing_from d.items ks b) (length ks) other le lt)
@@ -76,7 +77,7 @@ module _ (d : Desc) (distinct : duplicates d ≡ []) (a b : Text) (usage : Uses 
   used_stands_longer order is =
       let user = usage.user in
       let named : is_replaced (item_named d.items a) ≡ true = ap is_replaced usage.found ∙ user_replaced user b usage.used in
-      elim (used_in_front [] order is.behind (in_order d.items order is a named)) [ inl none ↦ absurd (true≢false (sym none)) | inr lt ↦ lt ]
+      elim (used_in_front [] order is.behind (replaced_ordered d.items order is a named)) [ inl none ↦ absurd (true≢false (sym none)) | inr lt ↦ lt ]
 
 reached_stands_longer : (d : Desc) (order : List ℕ) → duplicates d ≡ [] → IsOrder d.items order → {a b : Text} → Reaches d.items a b → standing_from d.items order a < standing_from d.items order b
 reached_stands_longer d order distinct is {a} {b} (directly usage) = used_stands_longer d distinct a b usage order is

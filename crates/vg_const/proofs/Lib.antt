@@ -1,6 +1,5 @@
 pub mod Nothing
 pub mod Placing
-pub mod Ordered
 pub mod Cycles
 pub mod OneWorth
 pub mod OneCount

@@ -9,7 +9,7 @@ use crate::plain::Plain;
 use sqlite_items::Items;
 use std::alloc::Global;
 use vg_ast::Desc;
-use vg_inline::{InPlace, behaviours};
+use vg_inline::{InPlace, put_in_place};
 use vg_names::{Table, first_duplicate, first_unknown};
 use vg_nodes::first_excess;
 use vg_order::{Order, order_of};
@@ -81,7 +81,7 @@ fn placed(
     ensures fault { IfErr result (λ f. (f ≡ DescFault.OutOfMemory) ⊎ Breaks d.now f) }
 {
     sized(alloc, d, table, order, worths)?;
-    Ok(behaviours(alloc, d, table, order, worths)?)
+    Ok(put_in_place(alloc, d, table, order, worths)?)
 }
 
 /// What the items of a description are worth, and what stands in place of its names, where it keeps the rules. Each rule

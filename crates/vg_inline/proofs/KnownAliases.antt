@@ -1,30 +1,29 @@
 -- Working out the aliases in an order in which each stands behind all that it uses.
 use borrow.Author.Tests.{eqb-true}
-use Rattle.std.proofs.Common.{eq-eqb, ◌≡◌, ℕ, zero, suc, ◌+◌, ◌<◌, Bool, true, false, ◌&&◌, ◌||◌, nat_eq, List, [], ◌∷◌, ◌++◌, length, set, get_or, drop, replicate, add-one, Option, Some, None, refl, sym, ap, subst, ◌∙◌, arith, true≢false, if◌then◌else◌}
+use Rattle.std.proofs.Common.{eq-eqb, ◌≡◌, ℕ, zero, suc, ◌+◌, ◌<◌, Bool, true, false, ◌&&◌, ◌||◌, nat_eq, List, [], ◌∷◌, ◌++◌, length, set, get_or, drop, replicate, Option, Some, None, refl, sym, ap, subst, ◌∙◌, arith, true≢false}
 use Rattle.std.specs.Prelude.{slice_get}
-use Rattle.std.specs.Str.{bytes_eq}
 use Rattle.std.specs.List.{All, list_all}
-use Rattle.std.proofs.Math.Seq.{drop-cons}
-use Rattle.std.proofs.lemmas.List.{length-set, length-replicate, get_or-set_same, get_or-set_other}
+use Rattle.std.proofs.lemmas.List.{length-set, length-replicate, get_or-set_same, get_or-set_other, drop_more}
+use Rattle.std.proofs.lemmas.Bool.{and_parts}
+use Rattle.std.proofs.lemmas.Option.{slice_get_within, slice_get-get_or}
 use Rattle.vg_ast.specs.declared.name.Name.{Name}
 use Rattle.vg_ast.specs.declared.item.Item.{Item}
 use Rattle.vg_ast.specs.declared.desc.Desc.{Desc}
 use Rattle.vg_names.specs.Definition.{Text, item_named, is_among}
 use Rattle.vg_names.specs.Duplicate.{duplicates}
+use Rattle.vg_names.proofs.Texts.{among_cases, among_moved, among_all}
 use Rattle.vg_order.specs.Numbers.{number_named}
 use Rattle.vg_order.specs.Uses.{uses_of}
-use Rattle.vg_order.specs.Cyclic.{replaced_name, has_name, is_replaced, text_of_name, text_of, names_of, is_before, is_fresh, may_follow, is_order_behind, IsOrder}
-use Rattle.vg_order.proofs.Lookups.{same_text, replaced_defined, item_of_number}
-use Rattle.vg_order.proofs.Distinct.{own_number}
+use Rattle.vg_order.specs.Cyclic.{replaced_name, has_name, is_replaced, text_of, names_of, is_before, is_fresh, may_follow, is_order_behind, IsOrder}
+use Rattle.vg_order.proofs.Lookups.{item_of_number}
+use Rattle.vg_order.proofs.Ordered.{used_before, own_named, replaced_ordered, nothing_left}
 use Rattle.vg_whole.specs.Whole.{Constants}
-use Rattle.vg_nodes.proofs.Agreement.{among_left, among_right}
-use Rattle.vg_nodes.proofs.Fixed.{each_of, among_cases}
+use Rattle.vg_whole.proofs.WorkingLemmas.{decide}
 use Rattle.vg_inline.specs.declared.declared.Declared.{Declared}
 use Rattle.vg_inline.specs.declared.declared.Declared.TheVariants as type
 use Rattle.vg_inline.specs.InPlace.{Aliases, alias_of}
 use Rattle.vg_inline.specs.Context.{alias_at, aliases_by}
 use Rattle.vg_inline.specs.Known.{without_templates, ordered_aliases, AreAliases}
-use Rattle.vg_inline.proofs.KnownOrder.{both_left, both_right, before_front, replaced_ordered}
 use Rattle.vg_inline.proofs.KnownTypes.{alias_alike, no_alias}
 use Rattle.vg_inline.proofs.KnownSettled.{are_aliases}
 
@@ -58,32 +57,9 @@ start all known order is = record {
     all_plain (suc n) zero = refl
     all_plain (suc n) (suc k) = all_plain n k
 
-pub number_within : (all : List Item) (k : ℕ) (item : Item) → slice_get all k ≡ Some item → k < length all
-number_within [] k item e = absurd (cc)
-number_within (x ∷ xs) zero item e = omega arith
-number_within (x ∷ xs) (suc k) item e = let h : k < length xs = number_within xs k item e in omega arith
-
-pub decide : (o : Option ℕ) (k : ℕ) → (b : Bool) × (b ≡ true → o ≡ Some k) × (b ≡ false → o ≡ Some k → ⊥)
-decide None k = (false, λ e. absurd (true≢false (sym e)), λ e h. absurd (cc))
-decide (Some j) k = (nat_eq j k, (λ e. ap (λ (i : ℕ). Some i) (eqb-true j k e)), (λ e h. (let same : j ≡ k = cc in true≢false (sym (eq-eqb j k same) ∙ e))))
-
 written_other : (list : List Declared) (k : ℕ) (v : Declared) (o : Option ℕ) → (o ≡ Some k → ⊥) → alias_at (set list k v) o ≡ alias_at list o
 written_other list k v None h = refl
 written_other list k v (Some j) h = get_or-set_other list k j v type.Bool (λ e. h (ap (λ (i : ℕ). Some i) e))
-
-pub own_named : (d : Desc) (k : ℕ) (item : Item) (text : Text) → duplicates d ≡ [] → slice_get d.items k ≡ Some item → is_among text (text_of (Some item)) ≡ true → number_named d.items text ≡ Some k
-own_named d k item text distinct at among = by (replaced_name item) refl among
-  where
-    only : (b : Bool) → (if b then true else false) ≡ true → b ≡ true
-    only true h = refl
-    only false h = h
-
-    by : (o : Option Name) → replaced_name item ≡ o → is_among text (text_of_name o) ≡ true → number_named d.items text ≡ Some k
-    by None r e = absurd (true≢false (sym e))
-    by (Some name) r e =
-        let m = replaced_defined item name r in
-        let same : name.text ≡ text = same_text name.text text (only (bytes_eq name.text text) e) in
-        ap (number_named d.items) (sym same) ∙ own_number d k item name m.0 distinct at m.1
 
 -- what may follow is put in place of its name
 follows_replaced : (front : List Text) (item : Item) → is_fresh front (replaced_name item) ≡ true → is_replaced (Some item) ≡ true
@@ -93,46 +69,24 @@ follows_replaced front item e = by (replaced_name item) refl e
     by None r h = absurd (true≢false (sym h))
     by (Some name) r h = ap has_name r
 
-or_none : (x : Bool) → (x || false) ≡ true → x ≡ true
-or_none true h = refl
-or_none false h = h
-
-or_true : (x : Bool) → (x || true) ≡ true
-or_true true = refl
-or_true false = refl
-
--- one more name is in front
-moved : (names front rest : List Text) (text : Text) → (is_among text front || is_among text (names ++ rest)) ≡ true → (is_among text (names ++ front) || is_among text rest) ≡ true
-moved names front rest text e = by (is_among text front) refl e
-  where
-    left : is_among text (names ++ front) ≡ true → (is_among text (names ++ front) || is_among text rest) ≡ true
-    left h = ap (λ (b : Bool). b || is_among text rest) h
-
-    right : is_among text rest ≡ true → (is_among text (names ++ front) || is_among text rest) ≡ true
-    right h = ap (λ (b : Bool). is_among text (names ++ front) || b) h ∙ or_true (is_among text (names ++ front))
-
-    by : (b : Bool) → is_among text front ≡ b → (b || is_among text (names ++ rest)) ≡ true → (is_among text (names ++ front) || is_among text rest) ≡ true
-    by true f h = left (among_right text names front f)
-    by false f h = among_cases ((is_among text (names ++ front) || is_among text rest) ≡ true) text names rest (λ g. left (among_left text names front g)) right h
-
 -- one more
 module _ (d : Desc) (constants : Constants) (known : Aliases) (are : AreAliases d.items constants known) (distinct : duplicates d ≡ []) (list : List Declared) (front : List Text) (k : ℕ) (ks : List ℕ) (w : IsWorking d.items known list front (k ∷ ks)) (item : Item) (at : slice_get d.items k ≡ Some item) (v : Declared) (value : v ≡ alias_of (without_templates constants (aliases_by d.items list)) (Some item)) where
   may_follow_behind : (may_follow d.items front (Some item) && is_order_behind d.items (text_of (Some item) ++ front) ks) ≡ true
   may_follow_behind = ap (λ (o : Option Item). may_follow d.items front o && is_order_behind d.items (text_of o ++ front) ks) (sym at) ∙ w.behind
 
   follows : may_follow d.items front (Some item) ≡ true
-  follows = both_left (may_follow d.items front (Some item)) (is_order_behind d.items (text_of (Some item) ++ front) ks) may_follow_behind
+  follows = (and_parts (may_follow d.items front (Some item)) (is_order_behind d.items (text_of (Some item) ++ front) ks) may_follow_behind).0
 
   known_value : v ≡ alias_of (without_templates constants known) (Some item)
   known_value = value ∙ alias_alike (without_templates constants (aliases_by d.items list)) (without_templates constants known) item refl (λ used among. by used among (is_replaced (item_named d.items used)) refl)
     where
       by : (used : Text) → is_among used (uses_of item) ≡ true → (b : Bool) → is_replaced (item_named d.items used) ≡ b → aliases_by d.items list used ≡ known used
       by used among true e =
-          w.worked used (before_front d.items front used (each_of (is_before d.items front) (uses_of item) (both_right (is_fresh front (replaced_name item)) (list_all (is_before d.items front) (uses_of item)) follows) used among) e)
+          w.worked used (used_before d.items front item used follows among e)
       by used among false e = unreplaced d.items known list front (k ∷ ks) w used e ∙ sym (are used ∙ no_alias (without_templates constants known) (item_named d.items used) e)
 
   inside : k < length list
-  inside = let h : k < length d.items = number_within d.items k item at in let e : length list ≡ length d.items = w.one_each in omega arith
+  inside = let h : k < length d.items = slice_get_within d.items k item at in let e : length list ≡ length d.items = w.one_each in omega arith
 
   still_plain : (j : ℕ) → is_replaced (slice_get d.items j) ≡ false → alias_at (set list k v) (Some j) ≡ type.Bool
   still_plain j e = by (nat_eq j k) refl
@@ -140,7 +94,7 @@ module _ (d : Desc) (constants : Constants) (known : Aliases) (are : AreAliases 
       by : (b : Bool) → nat_eq j k ≡ b → alias_at (set list k v) (Some j) ≡ type.Bool
       by true same =
           let replaced : is_replaced (slice_get d.items j) ≡ true = ap (λ (i : ℕ). is_replaced (slice_get d.items i)) (eqb-true j k same) ∙ ap is_replaced at
-          ∙ follows_replaced front item (both_left (is_fresh front (replaced_name item)) (list_all (is_before d.items front) (uses_of item)) follows) in
+          ∙ follows_replaced front item (and_parts (is_fresh front (replaced_name item)) (list_all (is_before d.items front) (uses_of item)) follows).0 in
           absurd (true≢false (sym replaced ∙ e))
       by false other = get_or-set_other list k j v type.Bool (λ same. true≢false (sym (eq-eqb j k same) ∙ other)) ∙ w.plain j e
 
@@ -161,9 +115,9 @@ module _ (d : Desc) (constants : Constants) (known : Aliases) (are : AreAliases 
   one_more = record {
     one_each = length-set list k v ∙ w.one_each;
     plain = still_plain;
-    behind = both_right (may_follow d.items front (Some item)) (is_order_behind d.items (text_of (Some item) ++ front) ks) may_follow_behind;
+    behind = (and_parts (may_follow d.items front (Some item)) (is_order_behind d.items (text_of (Some item) ++ front) ks) may_follow_behind).1;
     worked = still_worked;
-    complete = λ text e. moved (text_of (Some item)) front (names_of d.items ks) text (ap (λ (o : Option Item). is_among text front || is_among text (text_of o ++ names_of d.items ks)) (sym at) ∙ w.complete text e);
+    complete = λ text e. among_moved text (text_of (Some item)) front (names_of d.items ks) (ap (λ (o : Option Item). is_among text front || is_among text (text_of o ++ names_of d.items ks)) (sym at) ∙ w.complete text e);
   }
 
 -- behind the last
@@ -171,7 +125,7 @@ finished : (all : List Item) (constants : Constants) (known : Aliases) → AreAl
 finished all constants known are list front w text = by (is_replaced (item_named all text)) refl
   where
     by : (b : Bool) → is_replaced (item_named all text) ≡ b → aliases_by all list text ≡ known text
-    by true e = w.worked text (or_none (is_among text front) (w.complete text e))
+    by true e = w.worked text (among_all text front (w.complete text e))
     by false e = unreplaced all known list front [] w text e ∙ sym (are text ∙ no_alias (without_templates constants known) (item_named all text) e)
 
 -- The loop over an order.
@@ -182,22 +136,14 @@ Worked all constants order list rest = (front : List Text) × IsWorking all (ord
 pub worked_start : (d : Desc) (all : List Item) (constants : Constants) (order : List ℕ) → all ≡ d.items → IsOrder d.items order → Worked all constants order (replicate (length all) type.Bool) order
 worked_start d all constants order same is = ([], start all (ordered_aliases all constants order) order (subst (λ (l : List Item). IsOrder l order) (sym same) is))
 
-first_left : (order : List ℕ) (i : ℕ) → i < length order → drop i order ≡ get_or order i 0 ∷ drop (i + 1) order
-first_left order i h = drop-cons order i 0 h ∙ ap (λ (n : ℕ). get_or order i 0 ∷ drop n order) (sym (add-one i))
-
-read_at : (all : List Item) (k : ℕ) (x : Item) → k < length all → slice_get all k ≡ Some (get_or all k x)
-read_at [] k x l = absurd (omega arith)
-read_at (first ∷ all) zero x l = refl
-read_at (first ∷ all) (suc k) x l = let h : k < length all = omega arith in read_at all k x h
-
 pub worked_step : (d : Desc) (all : List Item) (constants : Constants) (order : List ℕ) (list : List Declared) (i : ℕ) (x : Item) (v : Declared) → all ≡ d.items → duplicates d ≡ [] → IsOrder d.items order
     → All (λ (k : ℕ). k < length all) order → Worked all constants order list (drop i order) → i < length order
     → v ≡ alias_of (without_templates constants (aliases_by all list)) (Some (get_or all (get_or order i 0) x)) → Worked all constants order (set list (get_or order i 0) v) (drop (i + 1) order)
 worked_step d all constants order list i x v same distinct is numbers w h value =
     let k = get_or order i 0 in
     let item = get_or all k x in
-    let at : slice_get all k ≡ Some item = read_at all k x (numbers i 0 h) in
-    let now : IsWorking all (ordered_aliases all constants order) list w.0 (k ∷ drop (i + 1) order) = subst (IsWorking all (ordered_aliases all constants order) list w.0) (first_left order i h) w.1 in (
+    let at : slice_get all k ≡ Some item = slice_get-get_or all k x (numbers i 0 h) in
+    let now : IsWorking all (ordered_aliases all constants order) list w.0 (k ∷ drop (i + 1) order) = subst (IsWorking all (ordered_aliases all constants order) list w.0) (drop_more order i 0 h) w.1 in (
       text_of (Some item) ++ w.0,
       by all same at now value,
     )
@@ -209,12 +155,6 @@ worked_step d all constants order list i x v same distinct is numbers w h value 
         → v ≡ alias_of (without_templates constants (aliases_by l list)) (Some (get_or all (get_or order i 0) x))
         → IsWorking l (ordered_aliases l constants order) (set list (get_or order i 0) v) (text_of (Some (get_or all (get_or order i 0) x)) ++ w.0) (drop (i + 1) order)) (sym e)
         (λ at now value. one_more d constants (ordered_aliases d.items constants order) (are_aliases d constants distinct order is) distinct list w.0 (get_or order i 0) (drop (i + 1) order) now (get_or all (get_or order i 0) x) at v value)
-
-nothing_left : (order : List ℕ) (i : ℕ) → (i < length order → ⊥) → drop i order ≡ []
-nothing_left [] zero h = refl
-nothing_left [] (suc i) h = refl
-nothing_left (k ∷ ks) zero h = absurd (h (omega arith))
-nothing_left (k ∷ ks) (suc i) h = nothing_left ks i (λ l. h (omega arith))
 
 pub worked_end : (d : Desc) (all : List Item) (constants : Constants) (order : List ℕ) (list : List Declared) (i : ℕ) → all ≡ d.items → duplicates d ≡ [] → IsOrder d.items order → Worked all constants order list (drop i order) → (i < length order → ⊥)
     → aliases_by all list ≡ ordered_aliases all constants order

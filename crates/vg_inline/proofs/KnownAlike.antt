@@ -10,11 +10,10 @@ use Rattle.vg_ast.specs.declared.parameter.Parameter.{Parameter}
 use Rattle.vg_ast.specs.declared.item.Item.{Item}
 use Rattle.vg_ast.specs.declared.item.Item.TheVariants as items
 use Rattle.vg_names.specs.Definition.{Text, item_named, is_among}
-use Rattle.vg_order.proofs.Lookups.{own_text}
+use Rattle.vg_names.proofs.Texts.{among_first, among_left, among_right}
 use Rattle.vg_order.specs.Uses.{Names, outer, all_of, names_step, expression_names, uses_of, parameter_names, type_expr_names}
 use Rattle.vg_whole.specs.Whole.{Inner, inner_of, binary_whole, Constants}
 use Rattle.vg_nodes.specs.Callee.{is_function_item}
-use Rattle.vg_nodes.proofs.Agreement.{among_left, among_right}
 use Rattle.vg_inline.specs.declared.declared.Declared.TheVariants as type
 use Rattle.vg_inline.specs.declared.tree.Tree.{Tree}
 use Rattle.vg_inline.specs.declared.tree.Tree.TheVariants as tree
@@ -22,9 +21,6 @@ use Rattle.vg_inline.specs.InPlace.{Placed, Places, Aliases, Templates, Known, t
 
 abbrev texts_of : Inner Placed → List Text
 texts_of inner = map (λ (x : Text × Placed). x.0) inner
-
-pub among_own : (text : Text) → is_among text (text ∷ []) ≡ true
-among_own text = ap (λ (t : Bool). if t then true else false) (own_text text)
 
 -- a name that stands for nothing is none of the inner names
 unhidden : (text : Text) (inner : Inner Placed) → inner_of inner text ≡ None → is_among text (texts_of inner) ≡ false
@@ -80,7 +76,7 @@ module _ (all : List Item) (constants : Constants) (aliases : Aliases) (F G : Te
   callee_same (Some p) name ts h = refl
 
   outer_same : (name : Name) (inner : Inner Placed) → Agree (outer name (texts_of inner)) → inner_of inner name.text ≡ None → is_function_item (item_named all name.text) ≡ true → F name.text ≡ G name.text
-  outer_same name inner same e = same name.text (ap (λ (t : Bool). is_among name.text (if t then [] else name.text ∷ [])) (unhidden name.text inner e) ∙ among_own name.text)
+  outer_same name inner same e = same name.text (ap (λ (t : Bool). is_among name.text (if t then [] else name.text ∷ [])) (unhidden name.text inner e) ∙ among_first name.text [])
 
   all_same : (fine : List Fine) (inner : Inner Placed) → Agree (all_of (map expression_names (map plain fine)) (texts_of inner))
       → trees_of_all (map (placed all (having F)) (map plain fine)) inner ≡ trees_of_all (map (placed all (having G)) (map plain fine)) inner

@@ -17,7 +17,7 @@ use Rattle.vg_nodes.specs.Counts.{sizes_of}
 use Rattle.vg_nodes.specs.Inner.{Sizes}
 use Rattle.vg_nodes.specs.Nodes.{Measure, Functions, counted, bound_to, nodes, function_nodes, AreFunctions, statement_nodes, field_measures, item_excess}
 use Rattle.vg_nodes.proofs.Agreement.{SameInner, Right}
-use Rattle.vg_nodes.proofs.Fixed.{function_alike}
+use Rattle.vg_nodes.proofs.Fixed.{function_alike, function_replaced, plainly, itself}
 use Rattle.vg_nodes.proofs.StatementAgreement.{statement_alike}
 use Rattle.vg_inline.specs.declared.tree.Tree.{Tree}
 use Rattle.vg_inline.specs.declared.tree.Tree.TheVariants as tree
@@ -26,8 +26,7 @@ use Rattle.vg_inline.specs.Size.{nothing, measures_of, functions_of, AreNodes}
 use Rattle.vg_inline.specs.Known.{FitsLimit, EffectsFit}
 use Rattle.vg_inline.proofs.Levels.{weighed-Field, weighed-Parameter}
 use Rattle.vg_inline.proofs.EffectSizes.{nodes_are_counted}
-use Rattle.vg_inline.proofs.KnownOrder.{ordered}
-use Rattle.vg_inline.proofs.KnownTypes.{function_replaced}
+use Rattle.vg_order.proofs.Ordered.{ordered}
 use Rattle.vg_inline.proofs.PlacedSizes.{weight_of, weights_of, taking_weighs, weighs}
 
 parameters_are_nodes : (k : ℕ) (parameters : List Parameter) → AreNodes (parameter_places k parameters)
@@ -48,12 +47,6 @@ weights_bound k (parameter ∷ more) sizes (x ∷ xs) same =
     let at : k ≡ k + 0 = omega arith in
     ap (λ (m : Measure). (parameter.name.text, m) ∷ weights_of sizes (parameter_places (k + 1) more)) (parameter_weight sizes k x (ap sizes at ∙ same 0))
     ∙ ap (λ (l : Inner Measure). (parameter.name.text, counted x) ∷ l) (weights_bound (k + 1) more sizes xs (λ i. let next : (k + 1) + i ≡ k + suc i = omega arith in ap sizes next ∙ same (suc i)))
-
-plainly : (a b c d : ℕ) → a ≡ b → c ≡ d → a + c ≡ b + d
-plainly a b c d e g = ap (λ (n : ℕ). n + c) e ∙ ap (λ (n : ℕ). b + n) g
-
-abbrev itself : ℕ → ℕ
-itself n = n
 
 module _ (d : Desc) (distinct : duplicates d ≡ []) (order : List ℕ) (is : IsOrder d.items order) (known : Known) (of : IsKnown d.items known) where
   abbrev F : Functions

@@ -9,11 +9,12 @@ use Rattle.vg_order.specs.Cyclic.{is_replaced, IsOrder}
 use Rattle.vg_whole.specs.Whole.{Constants}
 use Rattle.vg_whole.proofs.WorkingLemmas.{only_one}
 use Rattle.vg_nodes.specs.Callee.{is_function_item}
+use Rattle.vg_nodes.proofs.Fixed.{function_replaced}
 use Rattle.vg_inline.specs.InPlace.{Aliases, Templates, Known, alias_of, template_of, IsKnown}
 use Rattle.vg_inline.specs.Known.{without_templates, AreAliases, OnlyIsKnown}
-use Rattle.vg_inline.proofs.KnownOrder.{ordered}
+use Rattle.vg_order.proofs.Ordered.{ordered}
 use Rattle.vg_inline.proofs.KnownAlike.{template_alike}
-use Rattle.vg_inline.proofs.KnownTypes.{alias_alike, alias_same, no_alias, no_template, function_replaced}
+use Rattle.vg_inline.proofs.KnownTypes.{alias_alike, alias_same, no_alias, no_template}
 
 module _ (d : Desc) (distinct : duplicates d ≡ []) (order : List ℕ) (is : IsOrder d.items order) where
   pub only_aliases : (constants : Constants) (a b : Aliases) → AreAliases d.items constants a → AreAliases d.items constants b → (text : Text) → a text ≡ b text

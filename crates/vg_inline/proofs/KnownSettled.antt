@@ -9,12 +9,13 @@ use Rattle.vg_order.specs.Cyclic.{is_replaced, IsOrder}
 use Rattle.vg_whole.specs.Whole.{Constants, AreConstants}
 use Rattle.vg_whole.specs.Worths.{constants_by}
 use Rattle.vg_nodes.specs.Callee.{is_function_item}
+use Rattle.vg_nodes.proofs.Fixed.{function_replaced}
 use Rattle.vg_inline.specs.declared.declared.Declared.TheVariants as type
 use Rattle.vg_inline.specs.InPlace.{Aliases, Templates, Known, alias_of, template_of, IsKnown}
 use Rattle.vg_inline.specs.Known.{without_templates, aliases_within, templates_within, ordered_aliases, known_by, AreAliases, KnownIsKnown}
-use Rattle.vg_inline.proofs.KnownOrder.{ordered}
+use Rattle.vg_order.proofs.Ordered.{ordered}
 use Rattle.vg_inline.proofs.KnownAlike.{template_alike}
-use Rattle.vg_inline.proofs.KnownTypes.{alias_alike, alias_same, no_alias, no_template, function_replaced}
+use Rattle.vg_inline.proofs.KnownTypes.{alias_alike, alias_same, no_alias, no_template}
 
 module _ (d : Desc) (constants : Constants) (distinct : duplicates d ≡ []) where
   abbrev A : ℕ → Aliases

@@ -1,23 +1,27 @@
 -- Working out the bodies of functions in an order in which each stands behind all that it calls, of which those that have too
 -- many nodes aren't kept.
-use Rattle.std.proofs.Common.{◌≡◌, ℕ, zero, suc, ◌<◌, Bool, true, false, ◌&&◌, List, [], ◌∷◌, ◌++◌, length, set, Option, Some, None, refl, sym, ap, subst, ◌∙◌, arith, true≢false, if◌then◌else◌}
+use Rattle.std.proofs.Common.{◌≡◌, ℕ, ◌<◌, Bool, true, false, ◌&&◌, List, [], ◌∷◌, ◌++◌, length, set, Option, Some, None, refl, sym, ap, subst, ◌∙◌, arith, true≢false, if◌then◌else◌}
 use Rattle.std.specs.Prelude.{slice_get}
 use Rattle.std.specs.Option.{option_map}
-use Rattle.std.specs.List.{list_all}
 use Rattle.std.proofs.lemmas.List.{length-set}
+use Rattle.std.proofs.lemmas.Bool.{and_parts}
+use Rattle.std.proofs.lemmas.Option.{slice_get_within}
 use Rattle.vg_ast.specs.declared.item.Item.{Item}
 use Rattle.vg_ast.specs.declared.item.Item.TheVariants as items
 use Rattle.vg_ast.specs.declared.desc.Desc.{Desc}
 use Rattle.vg_names.specs.Definition.{Text, item_named, is_among}
 use Rattle.vg_names.specs.Duplicate.{duplicates}
+use Rattle.vg_names.proofs.Texts.{among_left, among_right, among_cases}
 use Rattle.vg_order.specs.Numbers.{number_named}
 use Rattle.vg_order.specs.Uses.{uses_of}
-use Rattle.vg_order.specs.Cyclic.{replaced_name, text_of, names_of, is_before, is_fresh, may_follow, is_order_behind, IsOrder}
+use Rattle.vg_order.specs.Cyclic.{text_of, names_of, may_follow, is_order_behind, IsOrder}
 use Rattle.vg_order.proofs.Lookups.{item_of_number}
+use Rattle.vg_order.proofs.Ordered.{used_before, own_named, replaced_ordered}
 use Rattle.vg_whole.specs.Whole.{Constants}
+use Rattle.vg_whole.proofs.WorkingLemmas.{decide}
 use Rattle.vg_nodes.specs.Callee.{is_function_item}
-use Rattle.vg_nodes.proofs.Agreement.{among_left, among_right}
-use Rattle.vg_nodes.proofs.Fixed.{each_of, among_cases}
+use Rattle.vg_nodes.proofs.Fixed.{function_replaced}
+use Rattle.vg_nodes.proofs.FormLemmas.{got_same, got_other}
 use Rattle.vg_inline.specs.declared.tree.Tree.{Tree}
 use Rattle.vg_inline.specs.declared.made.Made.{Made}
 use Rattle.vg_inline.specs.InPlace.{Aliases, Templates, Known, taking, declared_type, placed, parameter_places, template_of}
@@ -26,23 +30,8 @@ use Rattle.vg_inline.specs.Made.{within, tree_or, taking_made}
 use Rattle.vg_inline.specs.Context.{made_numbered, templates_by}
 use Rattle.vg_inline.specs.Templates.{within_some}
 use Rattle.vg_inline.proofs.Keeping.{kept_again, within_taking}
-use Rattle.vg_inline.proofs.KnownOrder.{both_left, both_right, before_front, replaced_ordered}
-use Rattle.vg_inline.proofs.KnownTypes.{function_replaced}
 use Rattle.vg_inline.proofs.KnownAlike.{template_alike}
 use Rattle.vg_inline.proofs.KnownKept.{placed_kept}
-use Rattle.vg_inline.proofs.KnownAliases.{number_within, decide, own_named}
-
-got_same : {X : Type 0} (xs : List X) (k : ℕ) (x : X) → k < length xs → slice_get (set xs k x) k ≡ Some x
-got_same [] k x lt = let never : k < 0 = lt in absurd (omega arith)
-got_same (y ∷ ys) zero x lt = refl
-got_same (y ∷ ys) (suc k) x lt = let less : k < length ys = omega arith in got_same ys k x less
-
-got_other : {X : Type 0} (xs : List X) (j k : ℕ) (x : X) → (j ≡ k → ⊥) → slice_get (set xs k x) j ≡ slice_get xs j
-got_other [] j k x other = refl
-got_other (y ∷ ys) zero zero x other = absurd (other refl)
-got_other (y ∷ ys) zero (suc k) x other = refl
-got_other (y ∷ ys) (suc j) zero x other = refl
-got_other (y ∷ ys) (suc j) (suc k) x other = got_other ys j k x (λ e. other (ap suc e))
 
 numbered_other : (list : List (Option Made)) (k : ℕ) (v : Option Made) (o : Option ℕ) → (o ≡ Some k → ⊥) → made_numbered (set list k v) o ≡ made_numbered list o
 numbered_other list k v None other = refl
@@ -69,8 +58,7 @@ module _ (d : Desc) (distinct : duplicates d ≡ []) (constants : Constants) (al
 
     used_same : (used : Text) → is_among used (uses_of item) ≡ true → is_function_item (item_named d.items used) ≡ true → L used ≡ H used
     used_same used among is =
-        let before = each_of (is_before d.items front) (uses_of item) (both_right (is_fresh front (replaced_name item)) (list_all (is_before d.items front) (uses_of item)) follows) used among in
-        sym (ap (λ (b : Bool). if b then L used else known used) (before_front d.items front used before (function_replaced (item_named d.items used) is)))
+        sym (ap (λ (b : Bool). if b then L used else known used) (used_before d.items front item used follows among (function_replaced (item_named d.items used) is)))
 
     front_same : (text : Text) → is_function_item (item_named d.items text) ≡ true → option_map within (H text) ≡ option_map within (known text)
     front_same text is = by (is_among text front) (λ e. kept text e is)
@@ -129,9 +117,9 @@ module _ (d : Desc) (distinct : duplicates d ≡ []) (constants : Constants) (al
             → (is_among text front ≡ true → IsKept (work (k ∷ ks) list) text) × (is_among text (text_of o ++ names_of d.items ks) ≡ true → IsKept (work (k ∷ ks) list) text)
         by after None at h = absurd (true≢false (sym h))
         by after (Some item) at h =
-            let follows = both_left (may_follow d.items front (Some item)) (is_order_behind d.items (text_of (Some item) ++ front) ks) h in
-            let rest = both_right (may_follow d.items front (Some item)) (is_order_behind d.items (text_of (Some item) ++ front) ks) h in
-            let inside : k < length list = (let e : k < length d.items = number_within d.items k item at in omega arith) in
+            let follows = (and_parts (may_follow d.items front (Some item)) (is_order_behind d.items (text_of (Some item) ++ front) ks) h).0 in
+            let rest = (and_parts (may_follow d.items front (Some item)) (is_order_behind d.items (text_of (Some item) ++ front) ks) h).1 in
+            let inside : k < length list = (let e : k < length d.items = slice_get_within d.items k item at in omega arith) in
             let made : Option Made = within_some (template_of d.items (K (templates_by d.items list)) (Some item)) in
             let written : work (k ∷ ks) list ≡ work ks (set list k made) =
             more k ks list ∙ ap (λ (o : Option Item). work ks (set list k (within_some (template_of d.items (K (templates_by d.items list)) o)))) at in

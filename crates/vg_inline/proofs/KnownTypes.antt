@@ -1,23 +1,23 @@
 -- What types are declared depends on constants and on the aliases that they name alone.
-use Rattle.std.proofs.Common.{◌≡◌, true, false, List, [], Option, Some, None, sym, ap, refl, true≢false}
+use Rattle.std.proofs.Common.{◌≡◌, true, false, List, [], Option, Some, None, ap, refl, true≢false}
 use Rattle.vg_ast.specs.declared.expr.Expr.{Expr}
 use Rattle.vg_ast.specs.declared.type_expr.TypeExpr.{TypeExpr}
 use Rattle.vg_ast.specs.declared.type_expr.TypeExpr.TheVariants as types
 use Rattle.vg_ast.specs.declared.item.Item.{Item}
 use Rattle.vg_ast.specs.declared.item.Item.TheVariants as items
 use Rattle.vg_names.specs.Definition.{Text, is_among}
+use Rattle.vg_names.proofs.Texts.{among_first}
 use Rattle.vg_order.specs.Cyclic.{is_replaced}
 use Rattle.vg_order.specs.Uses.{uses_of, type_expr_names}
 use Rattle.vg_whole.specs.Whole.{Constants, whole_of}
 use Rattle.vg_nodes.specs.Callee.{is_function_item}
 use Rattle.vg_inline.specs.declared.declared.Declared.TheVariants as type
 use Rattle.vg_inline.specs.InPlace.{Aliases, Known, declared_type, alias_of, template_of}
-use Rattle.vg_inline.proofs.KnownAlike.{among_own}
 
 declared_alike : (k l : Known) (t : TypeExpr Expr) → k.constants ≡ l.constants → ((text : Text) → is_among text (type_expr_names t []) ≡ true → k.aliases text ≡ l.aliases text) → declared_type k t ≡ declared_type l t
 declared_alike k l (types.Sized kind at width) e same = ap (λ (c : Constants). type.Sized kind (whole_of c width [])) e
 declared_alike k l (types.Bool at) e same = refl
-declared_alike k l (types.Alias name) e same = same name.text (among_own name.text)
+declared_alike k l (types.Alias name) e same = same name.text (among_first name.text [])
 
 pub alias_alike : (k l : Known) (item : Item) → k.constants ≡ l.constants → ((text : Text) → is_among text (uses_of item) ≡ true → k.aliases text ≡ l.aliases text) → alias_of k (Some item) ≡ alias_of l (Some item)
 alias_alike k l (items.Using at name meaning) e same = declared_alike k l meaning e same
@@ -36,11 +36,3 @@ no_alias k _ e = refl
 pub no_template : (all : List Item) (k : Known) (o : Option Item) → is_function_item o ≡ false → template_of all k o ≡ None
 no_template all k (Some (items.Function at name parameters result body)) e = absurd (true≢false e)
 no_template all k _ e = refl
-
--- what is put in place of its name is a function, where a function has the name
-pub function_replaced : (o : Option Item) → is_function_item o ≡ true → is_replaced o ≡ true
-function_replaced None e = absurd (true≢false (sym e))
-function_replaced (Some (items.Function at name parameters result body)) e = refl
-function_replaced (Some (items.Constant at name value)) e = refl
-function_replaced (Some (items.Using at name meaning)) e = refl
-function_replaced (Some _) e = absurd (true≢false (sym e))

@@ -20,7 +20,6 @@ mod EffectFits
 mod StateLemmas
 mod BehaviourLemmas
 mod BehaviourKnown
-mod KnownOrder
 mod KnownAlike
 mod KnownTypes
 mod KnownSettled

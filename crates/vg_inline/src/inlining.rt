@@ -105,7 +105,7 @@ fn behaviours_along(
 }
 
 /// What aliases stand for and what each instruction does, with everything in place of their names.
-pub fn behaviours(
+pub fn put_in_place(
     alloc: Global,
     description: &Desc,
     table: &Table,

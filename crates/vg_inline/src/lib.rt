@@ -14,7 +14,7 @@
 //! ([`only_is_known`]). Where no instruction is counted as too large, none is with everything in place ([`effects_fit`]).
 //! A parameter that gets no argument is a leaf of its own there (`Tree::Lacking`), which counts nothing.
 //!
-//! [`behaviours`] makes what each instruction does. It takes a description that defines nothing twice, its table of names, an
+//! [`put_in_place`] makes what each instruction does. It takes a description that defines nothing twice, its table of names, an
 //! order in which each item stands behind all that it uses, and what its constants are worth, and gives [`InPlace`]: what
 //! each alias stands for, and one [`Effect`] for each instruction, unless memory ends. Aliases and the bodies of functions
 //! are worked out along the order, each once; where they are used they are copied ([`moved`]). Of a tree that has more than
@@ -58,7 +58,7 @@ pub use context::Context;
 pub use declared::Declared;
 pub use effect::{Effect, Target};
 pub use in_place::InPlace;
-pub use inlining::behaviours;
+pub use inlining::put_in_place;
 pub use known::{effects_fit, known_is_known, only_is_known};
 pub use laws::nodes_are_counted;
 pub use moving::moved;

@@ -1,7 +1,7 @@
 -- What the table has of the names inside of one item.
 use borrow.Author.Tests.{eqb-true}
 use Rattle.std.proofs.Common.{eq-eqb, ◌≡◌, ◌≢◌, ℕ, zero, suc, ◌+◌, ◌<◌, Bool, true, false, refl, arith, ap, sym, ◌∙◌, ◌&&◌, ◌||◌, nat_eq, List, map, [], ◌∷◌, Option, Some, None, length, slice_get, if◌then◌else◌}
-use Rattle.std.proofs.lemmas.Option.{slice_get_past, slice_get_read}
+use Rattle.std.proofs.lemmas.Option.{slice_get_past, slice_get_read, same_Some, none-some}
 use Rattle.std.specs.Borrow.{Bor}
 use Rattle.std.specs.Option.{option_copied}
 use Rattle.std.specs.Slice.{IsItemAt}
@@ -33,12 +33,6 @@ eq_not m n h = by (nat_eq m n) refl
     by : (b : Bool) → nat_eq m n ≡ b → nat_eq m n ≡ false
     by true e = absurd (h (eqb-true m n e))
     by false e = e
-
-none_some : {X : Type 0} (x : X) → None ≡ Some x → ⊥
-none_some x e = cc
-
-some_same : {X : Type 0} (a b : X) → Some a ≡ Some b → a ≡ b
-some_same a b e = cc
 
 fields_named : (i j : ℕ) (text : Text) (fields : List Field)
     → has (map (λ (field : Field). (scopes.Fields j, field.name.text)) fields) (scopes.Fields i, text) ≡ (nat_eq i j && is_among text (map (λ (field : Field). field.name.text) fields))
@@ -173,13 +167,13 @@ item_at all (Some number) = slice_get all number
 
 -- the number of the first item that defines a name, counted from k on, is the place of that item
 shifted : (k : ℕ) (all : List Item) (text : Text) (number : ℕ) → number_from k all text ≡ Some number → (place : ℕ) × (number ≡ k + place) × (slice_get all place ≡ item_named all text)
-shifted k [] text number h = absurd (none_some number h)
+shifted k [] text number h = absurd (none-some number h)
 shifted k (item ∷ all) text number h = by (shifted (k + 1) all text number) (defines text (definition_of item)) refl
   where
     by : (number_from (k + 1) all text ≡ Some number → (place : ℕ) × (number ≡ (k + 1) + place) × (slice_get all place ≡ item_named all text)) → (b : Bool) → defines text (definition_of item) ≡ b
         → (place : ℕ) × (number ≡ k + place) × (slice_get (item ∷ all) place ≡ (if defines text (definition_of item) then Some item else item_named all text))
     by rest true e =
-        let same : k ≡ number = some_same k number (sym (ap (λ b. if b then Some k else number_from (k + 1) all text) e) ∙ h) in
+        let same : k ≡ number = same_Some k number (sym (ap (λ b. if b then Some k else number_from (k + 1) all text) e) ∙ h) in
         (0, omega arith, sym (ap (λ b. if b then Some item else item_named all text) e))
     by rest false e =
         let r = rest (sym (ap (λ b. if b then Some k else number_from (k + 1) all text) e) ∙ h) in
@@ -190,7 +184,7 @@ not_defined k [] text h = refl
 not_defined k (item ∷ all) text h = by (not_defined (k + 1) all text) (defines text (definition_of item)) refl
   where
     by : (number_from (k + 1) all text ≡ None → item_named all text ≡ None) → (b : Bool) → defines text (definition_of item) ≡ b → (if defines text (definition_of item) then Some item else item_named all text) ≡ None
-    by rest true e = absurd (none_some k (sym h ∙ ap (λ b. if b then Some k else number_from (k + 1) all text) e))
+    by rest true e = absurd (none-some k (sym h ∙ ap (λ b. if b then Some k else number_from (k + 1) all text) e))
     by rest false e = ap (λ b. if b then Some item else item_named all text) e ∙ rest (sym (ap (λ b. if b then Some k else number_from (k + 1) all text) e) ∙ h)
 
 pub named_at : (all : List Item) (text : Text) → item_at all (number_from 0 all text) ≡ item_named all text
@@ -205,13 +199,13 @@ named_at all text = by (number_from 0 all text) refl
 
 -- what a name stands for is what its item defines
 pub meaning_named : (all : List Item) (text : Text) (item : Item) → Some item ≡ item_named all text → meaning_of (definition_of item) ≡ meaning_in all text
-meaning_named [] text item h = absurd (none_some item (sym h))
+meaning_named [] text item h = absurd (none-some item (sym h))
 meaning_named (x ∷ all) text item h = by (meaning_named all text item) (defines text (definition_of x)) refl
   where
     by : (Some item ≡ item_named all text → meaning_of (definition_of item) ≡ meaning_in all text) → (b : Bool) → defines text (definition_of x) ≡ b
         → meaning_of (definition_of item) ≡ (if defines text (definition_of x) then meaning_of (definition_of x) else meaning_in all text)
     by rest true e =
-        ap (λ i. meaning_of (definition_of i)) (some_same item x (h ∙ ap (λ b. if b then Some x else item_named all text) e))
+        ap (λ i. meaning_of (definition_of i)) (same_Some item x (h ∙ ap (λ b. if b then Some x else item_named all text) e))
         ∙ sym (ap (λ b. if b then meaning_of (definition_of x) else meaning_in all text) e)
     by rest false e = rest (h ∙ ap (λ b. if b then Some x else item_named all text) e) ∙ sym (ap (λ b. if b then meaning_of (definition_of x) else meaning_in all text) e)
 
@@ -220,7 +214,7 @@ meaning_unnamed [] text h = refl
 meaning_unnamed (x ∷ all) text h = by (meaning_unnamed all text) (defines text (definition_of x)) refl
   where
     by : (None ≡ item_named all text → None ≡ meaning_in all text) → (b : Bool) → defines text (definition_of x) ≡ b → None ≡ (if defines text (definition_of x) then meaning_of (definition_of x) else meaning_in all text)
-    by rest true e = absurd (none_some x (h ∙ ap (λ b. if b then Some x else item_named all text) e))
+    by rest true e = absurd (none-some x (h ∙ ap (λ b. if b then Some x else item_named all text) e))
     by rest false e = rest (h ∙ ap (λ b. if b then Some x else item_named all text) e) ∙ sym (ap (λ b. if b then meaning_of (definition_of x) else meaning_in all text) e)
 
 -- what a slice lends at a place

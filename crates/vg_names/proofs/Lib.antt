@@ -1,3 +1,4 @@
+pub mod Texts
 pub mod MetLemmas
 pub mod TableLemmas
 pub mod InnerLemmas

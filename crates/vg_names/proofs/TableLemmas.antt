@@ -1,5 +1,5 @@
 -- The table of the names of items.
-use Rattle.std.proofs.Common.{◌≡◌, ℕ, ◌+◌, ◌<◌, Bool, true, false, rules, refl, ap, sym, subst, ◌∙◌, ◌&&◌, ◌||◌, List, map, [], ◌∷◌, ◌++◌, length, drop, get_or, add-one, drop-cons, Option, Some, None, if◌then◌else◌, true≢false, is_some, cond}
+use Rattle.std.proofs.Common.{◌≡◌, ℕ, ◌+◌, ◌<◌, Bool, true, false, rules, refl, ap, sym, subst, ◌∙◌, ◌||◌, List, map, [], ◌∷◌, ◌++◌, length, drop, get_or, add-one, drop-cons, Option, Some, None, if◌then◌else◌, true≢false, is_some, cond}
 use Rattle.std.specs.Borrow.{Bor}
 use Rattle.std.specs.Option.{option_or}
 use Rattle.std.specs.Str.{bytes_eq}
@@ -7,6 +7,7 @@ use Rattle.std.specs.List.{list_any}
 use Rattle.std.proofs.lemmas.List.Folds.{list_any-append}
 use Rattle.std.proofs.lemmas.Slice.Eq.{bytes_eq-Decides}
 use Rattle.std.proofs.lemmas.Map.Text.{hash_map_updates_str}
+use Rattle.std.proofs.lemmas.Bool.{and_parts}
 use Rattle.indexmap.specs.IndexSet.{insert_key}
 use Rattle.indexmap.specs.IndexMap.{IndexMap, get_by, Updates}
 use Rattle.vg_ast.specs.declared.name.Name.{Name}
@@ -40,14 +41,9 @@ or_assoc false b c = refl
 scope_same : (a b : Scope) → same_scope a b ≡ true → a ≡ b
 scope_same a b h = search rules
 
-both : (a b : Bool) → (a && b) ≡ true → (a ≡ true) × (b ≡ true)
-both true true h = (refl, refl)
-both true false h = absurd (true≢false (sym h))
-both false b h = absurd (true≢false (sym h))
-
 key_same : (a b : Key) → same_key a b ≡ true → a ≡ b
 key_same a b h =
-    let p = both (same_scope a.0 b.0) (bytes_eq a.1 b.1) h in
+    let p = and_parts (same_scope a.0 b.0) (bytes_eq a.1 b.1) h in
     let s : a.0 ≡ b.0 = scope_same a.0 b.0 p.0 in
     let t : a.1 ≡ b.1 = (bytes_eq-Decides a.1 b.1).0 p.1 in
     λ i. (s i, t i)

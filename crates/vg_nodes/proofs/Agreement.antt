@@ -1,5 +1,5 @@
 -- What an expression counts depends on what the functions that it calls count alone.
-use Rattle.std.proofs.Common.{◌≡◌, ℕ, zero, suc, ◌+◌, Bool, true, false, List, map, [], ◌∷◌, ◌++◌, Option, Some, None, sym, ap, subst, ◌∙◌, refl, true≢false, if◌then◌else◌}
+use Rattle.std.proofs.Common.{◌≡◌, ℕ, zero, suc, ◌+◌, Bool, true, false, List, map, [], ◌∷◌, ◌++◌, Option, Some, None, sym, ap, subst, ◌∙◌, refl, if◌then◌else◌}
 use Rattle.std.specs.Str.{bytes_eq}
 use Rattle.vg_ast.specs.declared.name.Name.{Name}
 use Rattle.vg_ast.specs.declared.operator.BinaryOperator.{BinaryOperator}
@@ -9,7 +9,7 @@ use Rattle.vg_ast.specs.declared.expr.Expr.TheOpen.{Expr-F}
 use Rattle.vg_ast.specs.declared.item.Item.{Item}
 use Rattle.vg_ast.specs.declared.item.Item.TheVariants as items
 use Rattle.vg_names.specs.Definition.{Text, item_named, is_among}
-use Rattle.vg_order.proofs.Lookups.{own_text}
+use Rattle.vg_names.proofs.Texts.{among_first, among_left, among_right}
 use Rattle.vg_order.specs.Uses.{Names, outer, all_of, names_step, expression_names}
 use Rattle.vg_whole.specs.declared.worth.Worth.{Worth}
 use Rattle.vg_whole.specs.declared.worth.Worth.TheVariants as worths
@@ -20,25 +20,6 @@ use Rattle.vg_nodes.specs.Nodes.{Measure, Measures, Functions, called, callee_of
 
 abbrev pub texts_of : Inner Measure → List Text
 texts_of inner = map (λ (x : Text × Measure). x.0) inner
-
-pub among_left : (text : Text) (a b : List Text) → is_among text a ≡ true → is_among text (a ++ b) ≡ true
-among_left text [] b e = absurd (true≢false (sym e))
-among_left text (first ∷ a) b e = by (bytes_eq first text) (among_left text a b) e
-  where
-    by : (t : Bool) → (is_among text a ≡ true → is_among text (a ++ b) ≡ true) → (if t then true else is_among text a) ≡ true → (if t then true else is_among text (a ++ b)) ≡ true
-    by true again h = refl
-    by false again h = again h
-
-pub among_right : (text : Text) (a b : List Text) → is_among text b ≡ true → is_among text (a ++ b) ≡ true
-among_right text [] b e = e
-among_right text (first ∷ a) b e = by (bytes_eq first text) (among_right text a b e)
-  where
-    by : (t : Bool) → is_among text (a ++ b) ≡ true → (if t then true else is_among text (a ++ b)) ≡ true
-    by true h = refl
-    by false h = h
-
-among_own : (text : Text) → is_among text (text ∷ []) ≡ true
-among_own text = ap (λ (t : Bool). if t then true else false) (own_text text)
 
 -- a name that stands for nothing is none of the inner names
 unhidden : (text : Text) (inner : Inner Measure) → inner_of inner text ≡ None → is_among text (texts_of inner) ≡ false
@@ -139,7 +120,7 @@ module _ (f : ℕ → ℕ) (plus : (a b c d : ℕ) → f a ≡ f b → f c ≡ f
     callee_same (Some x) (Some y) name us vs h right sizes sums = plus 1 1 (sum_of us) (sum_of vs) refl sums
 
     outer_right : (name : Name) (xs : Inner Measure) → Agree (outer name (texts_of xs)) → inner_of xs name.text ≡ None → Right name.text
-    outer_right name xs same e = same name.text (ap (λ (t : Bool). is_among name.text (if t then [] else name.text ∷ [])) (unhidden name.text xs e) ∙ among_own name.text)
+    outer_right name xs same e = same name.text (ap (λ (t : Bool). is_among name.text (if t then [] else name.text ∷ [])) (unhidden name.text xs e) ∙ among_first name.text [])
 
     all_sums : (known : List Known) (xs ys : Inner Measure) → SameInner xs ys → Agree (all_of (map expression_names (map plain known)) (texts_of xs))
         → f (sum_of (nodes_of_all (map (measure all constants F) (map plain known)) xs)) ≡ f (sum_of (nodes_of_all (map (measure all constants G) (map plain known)) ys))

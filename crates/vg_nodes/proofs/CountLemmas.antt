@@ -2,7 +2,7 @@
 use Rattle.std.proofs.Common.{◌≡◌, ℕ, ◌+◌, ◌*◌, ◌<◌, List, [], ◌∷◌, length, get_or, drop, Option, Some, None, refl, sym, ap, subst, ◌∙◌, arith, add-one, ◌++◌, ◌≤◌, ◌&&◌, length-append, Bool, true, false, true≢false}
 use Rattle.std.specs.Option.{option_map}
 use Rattle.std.proofs.lemmas.List.{drop_more}
-use Rattle.std.proofs.lemmas.Bool.{lt-ltb}
+use Rattle.std.proofs.lemmas.Bool.{lt-ltb, and_from}
 use Rattle.vg_ast.specs.declared.name.Name.{Name}
 use Rattle.vg_ast.specs.declared.operator.UnaryOperator.{UnaryOperator}
 use Rattle.vg_ast.specs.declared.operator.BinaryOperator.{BinaryOperator}
@@ -342,16 +342,12 @@ form_called x text own form ns e same =
     ∙ ap (λ (o : Option Counts). form_nodes o ns) e
     ∙ ap (λ (t : Text). functions_of x t ns) same
 
-both : (a b : Bool) → a ≡ true → b ≡ true → (a && b) ≡ true
-both true b e h = h
-both false b e h = absurd (true≢false (sym e))
-
 -- one slot more does for the name of a `let`
 pub let_fits : (parameters : List Parameter) (names : Names) (slots slot more : ℕ) → is_within parameters slots names ≡ true → slot ≡ slots → more ≡ slots + 1 → (has_slot more (Some slot) && is_within parameters more names) ≡ true
 let_fits parameters names slots slot more h e g =
     let lt : slot < more = omega arith in
     let le : slots ≤ more = omega arith in
-    both (has_slot more (Some slot)) (is_within parameters more names) (lt-ltb slot more lt) (within_more parameters slots more names le h)
+    and_from (has_slot more (Some slot)) (is_within parameters more names) (lt-ltb slot more lt) (within_more parameters slots more names le h)
 
 pub one_longer : (uses new : List ℕ) (n : ℕ) → new ≡ uses ++ n ∷ [] → length new ≡ length uses + 1
 one_longer uses new n e = ap length e ∙ length-append uses (n ∷ [])

@@ -1,24 +1,25 @@
 -- Working out the forms of functions in an order in which each stands behind all that it uses.
 use borrow.Author.Tests.{eqb-true}
-use Rattle.std.proofs.Common.{◌≡◌, ℕ, zero, suc, ◌+◌, ◌<◌, ◌⊎◌, inl, inr, eq-eqb, nat_eq, Bool, true, false, ◌&&◌, not, List, [], ◌∷◌, ◌++◌, length, set, get_or, drop, replicate, ◌*◌, Option, Some, None, sym, ap, subst, ◌∙◌, refl, arith, true≢false, if◌then◌else◌}
+use Rattle.std.proofs.Common.{◌≡◌, ℕ, zero, suc, ◌+◌, ◌<◌, ◌⊎◌, inl, inr, eq-eqb, nat_eq, Bool, true, false, ◌&&◌, not, List, [], ◌∷◌, ◌++◌, length, set, get_or, drop, replicate, ◌*◌, Option, Some, None, sym, ap, subst, ◌∙◌, refl, arith, true≢false}
 use Rattle.std.specs.Prelude.{slice_get}
 use Rattle.std.specs.List.{list_all}
-use Rattle.std.specs.Str.{bytes_eq}
-use Rattle.std.proofs.lemmas.List.{drop_more}
-use Rattle.std.proofs.lemmas.Option.{slice_get_within}
+use Rattle.std.proofs.lemmas.List.{drop_more, length-set, get_or-set_same}
+use Rattle.std.proofs.lemmas.Option.{slice_get_within, slice_get-get_or}
+use Rattle.std.proofs.lemmas.Bool.{and_parts}
 use Rattle.vg_ast.specs.declared.name.Name.{Name}
 use Rattle.vg_ast.specs.declared.desc.Desc.{Desc}
 use Rattle.vg_ast.specs.declared.expr.Expr.{Expr}
 use Rattle.vg_ast.specs.declared.parameter.Parameter.{Parameter}
 use Rattle.vg_ast.specs.declared.item.Item.{Item}
 use Rattle.vg_ast.specs.declared.item.Item.TheVariants as items
-use Rattle.vg_names.specs.Definition.{Text, is_among}
+use Rattle.vg_names.specs.Definition.{Text, is_among, item_named}
 use Rattle.vg_names.specs.Duplicate.{duplicates}
+use Rattle.vg_names.proofs.Texts.{among_left, among_right, among_cases}
 use Rattle.vg_order.specs.Uses.{uses_of}
 use Rattle.vg_order.specs.Numbers.{number_named}
-use Rattle.vg_order.specs.Cyclic.{replaced_name, text_of_name, text_of, names_of, is_before, is_fresh, may_follow, is_order_behind, IsOrder}
-use Rattle.vg_order.proofs.Lookups.{same_text, replaced_defined, text_of_number}
-use Rattle.vg_order.proofs.Distinct.{own_number}
+use Rattle.vg_order.specs.Cyclic.{replaced_name, text_of, names_of, is_before, is_fresh, may_follow, is_order_behind, IsOrder}
+use Rattle.vg_order.proofs.Lookups.{text_of_number}
+use Rattle.vg_order.proofs.Ordered.{own_named, own_item, replaced_ordered}
 use Rattle.vg_whole.specs.Whole.{Inner, Constants}
 use Rattle.vg_nodes.specs.declared.counts.Counts.{Counts}
 use Rattle.vg_nodes.specs.Callee.{is_function_item}
@@ -28,9 +29,9 @@ use Rattle.vg_nodes.specs.Functions.{functions_by}
 use Rattle.vg_nodes.specs.Inner.{Sizes, parameter_measures}
 use Rattle.vg_nodes.specs.Counts.{total, sizes_of, form_nodes, form_numbered, functions_in, weighed_from}
 use Rattle.vg_nodes.specs.Forms.{IsForm, IsWorked, IsWorkedOut, AreForms}
-use Rattle.vg_nodes.proofs.Agreement.{among_left, among_right, SameSizes, Right}
+use Rattle.vg_nodes.proofs.Agreement.{SameSizes, Right}
 use Rattle.vg_nodes.proofs.Capping.{capped_sum}
-use Rattle.vg_nodes.proofs.Fixed.{own_item, among_cases, uses_agree, function_alike, in_order, are_functions}
+use Rattle.vg_nodes.proofs.Fixed.{uses_agree, function_alike, are_functions, function_replaced}
 
 -- the parameters with their arguments
 bound_parameters : (k : ℕ) (parameters : List Parameter) (sizes : Sizes) (xs : List ℕ) → ((i : ℕ) → sizes (k + i) ≡ get_or xs i 0) → parameter_measures k parameters sizes ≡ bound_to parameters xs
@@ -47,29 +48,17 @@ bound_parameters k (parameter ∷ more) sizes (x ∷ xs) same =
 bound_all : (parameters : List Parameter) (xs : List ℕ) → parameter_measures 0 parameters (sizes_of xs) ≡ bound_to parameters xs
 bound_all parameters xs = bound_parameters 0 parameters (sizes_of xs) xs (λ i. let at : 0 + i ≡ i = omega arith in ap (sizes_of xs) at)
 
-got_same : {X : Type 0} (xs : List X) (k : ℕ) (x : X) → k < length xs → slice_get (set xs k x) k ≡ Some x
-got_same [] k x lt = let never : k < 0 = lt in absurd (omega arith)
-got_same (y ∷ ys) zero x lt = refl
-got_same (y ∷ ys) (suc k) x lt = let more : suc k < suc (length ys) = lt in got_same ys k x (omega arith)
+pub got_same : {X : Type 0} (xs : List X) (k : ℕ) (x : X) → k < length xs → slice_get (set xs k x) k ≡ Some x
+got_same {X = X} xs k x lt =
+    let inside : k < length (set xs k x) = (let same : length (set xs k x) ≡ length xs = length-set xs k x in omega arith) in
+    slice_get-get_or (set xs k x) k x inside ∙ ap (λ (y : X). Some y) (get_or-set_same xs k x x lt)
 
-got_other : {X : Type 0} (xs : List X) (k j : ℕ) (x : X) → nat_eq j k ≡ false → slice_get (set xs k x) j ≡ slice_get xs j
-got_other [] k j x ne = refl
-got_other (y ∷ ys) zero zero x ne = absurd (true≢false ne)
-got_other (y ∷ ys) zero (suc j) x ne = refl
-got_other (y ∷ ys) (suc k) zero x ne = refl
-got_other (y ∷ ys) (suc k) (suc j) x ne = got_other ys k j x (by (nat_eq j k) refl)
-  where
-    by : (b : Bool) → nat_eq j k ≡ b → nat_eq j k ≡ false
-    by true e = let same : j ≡ k = eqb-true j k e in absurd (true≢false (sym (eq-eqb (suc j) (suc k) (ap suc same)) ∙ ne))
-    by false e = e
-
-both_left : (a b : Bool) → (a && b) ≡ true → a ≡ true
-both_left true b e = refl
-both_left false b e = e
-
-both_right : (a b : Bool) → (a && b) ≡ true → b ≡ true
-both_right true b e = e
-both_right false b e = absurd (true≢false (sym e))
+pub got_other : {X : Type 0} (xs : List X) (j k : ℕ) (x : X) → (j ≡ k → ⊥) → slice_get (set xs k x) j ≡ slice_get xs j
+got_other [] j k x other = refl
+got_other (y ∷ ys) zero zero x other = absurd (other refl)
+got_other (y ∷ ys) zero (suc k) x other = refl
+got_other (y ∷ ys) (suc j) zero x other = refl
+got_other (y ∷ ys) (suc j) (suc k) x other = got_other ys j k x (λ e. other (ap suc e))
 
 not_true : (b : Bool) → not b ≡ true → b ≡ true → ⊥
 not_true true e h = true≢false (sym e)
@@ -105,23 +94,9 @@ module _ (d : Desc) (constants : Constants) (distinct : duplicates d ≡ []) (or
       ∙ ap capped (is_body (functions_in d.items forms) xs)
       ∙ function_alike capped capped_sum d.items constants (functions_in d.items forms) exact item xs ys same (uses_agree capped capped_sum d.items constants (functions_in d.items forms) exact front item follows right)
 
-  name_number : (k : ℕ) (item : Item) (text : Text) → slice_get d.items k ≡ Some item → is_among text (text_of (Some item)) ≡ true → number_named d.items text ≡ Some k
-  name_number k item text at among = by (replaced_name item) refl among
-    where
-      by : (o : Option Name) → replaced_name item ≡ o → is_among text (text_of_name o) ≡ true → number_named d.items text ≡ Some k
-      by None r e = absurd (true≢false (sym e))
-      by (Some name) r e =
-          let m = replaced_defined item name r in
-          let same : name.text ≡ text = same_text name.text text (only (bytes_eq name.text text) e) in
-          ap (number_named d.items) (sym same) ∙ own_number d k item name m.0 distinct at m.1
-        where
-          only : (b : Bool) → (if b then true else false) ≡ true → b ≡ true
-          only true h = refl
-          only false h = h
-
   -- a name in front has another number
   other_number : (front : List Text) (k : ℕ) (item : Item) (text : Text) → slice_get d.items k ≡ Some item → may_follow d.items front (Some item) ≡ true → is_among text front ≡ true → number_named d.items text ≡ Some k → ⊥
-  other_number front k item text at follows among number = by (replaced_name item) refl (both_left (is_fresh front (replaced_name item)) (list_all (is_before d.items front) (uses_of item)) follows)
+  other_number front k item text at follows among number = by (replaced_name item) refl (and_parts (is_fresh front (replaced_name item)) (list_all (is_before d.items front) (uses_of item)) follows).0
     where
       by : (o : Option Name) → replaced_name item ≡ o → is_fresh front o ≡ true → ⊥
       by None r e = true≢false (sym e)
@@ -141,7 +116,7 @@ module _ (d : Desc) (constants : Constants) (distinct : duplicates d ≡ []) (or
 
       own : is_among text (text_of (Some item)) ≡ true → capped (functions_in d.items new text xs) ≡ capped (exact text ys)
       own e =
-          ap (λ (o : Option ℕ). capped (form_nodes (form_numbered new o) xs)) (name_number k item text at e)
+          ap (λ (o : Option ℕ). capped (form_nodes (form_numbered new o) xs)) (own_named d k item text distinct at e)
           ∙ ap (λ (l : List Counts). capped (form_nodes (slice_get l k) xs)) (sets within)
           ∙ ap (λ (o : Option Counts). capped (form_nodes o xs)) (got_same forms k form within)
           ∙ form_right forms front parameters body item form xs ys is_body is_form follows right same
@@ -154,7 +129,7 @@ module _ (d : Desc) (constants : Constants) (distinct : duplicates d ≡ []) (or
         where
           by : (b : Bool) → nat_eq j k ≡ b → slice_get new j ≡ slice_get forms j
           by true eq = absurd (other_number front k item text at follows e (n ∙ ap (λ (i : ℕ). Some i) (eqb-true j k eq)))
-          by false ne = ap (λ (l : List Counts). slice_get l j) (sets within) ∙ got_other forms k j form ne
+          by false ne = ap (λ (l : List Counts). slice_get l j) (sets within) ∙ got_other forms j k form (λ same. true≢false (sym (eq-eqb j k same) ∙ ne))
 
       other : is_among text front ≡ true → capped (functions_in d.items new text xs) ≡ capped (exact text ys)
       other e = ap (λ (o : Option Counts). capped (form_nodes o xs)) (kept_forms (number_named d.items text) refl e) ∙ right text e called xs ys same
@@ -182,11 +157,11 @@ module _ (d : Desc) (constants : Constants) (distinct : duplicates d ≡ []) (or
       by : (o : Option Item) → slice_get d.items k ≡ o → (may_follow d.items working.front o && is_order_behind d.items (text_of o ++ working.front) (drop (i + 1) order)) ≡ true → IsWorking d constants order new (i + 1)
       by None at h = absurd (true≢false (sym h))
       by (Some item) at h =
-          let follows = both_left (may_follow d.items working.front (Some item)) (is_order_behind d.items (text_of (Some item) ++ working.front) (drop (i + 1) order)) h in
+          let follows = (and_parts (may_follow d.items working.front (Some item)) (is_order_behind d.items (text_of (Some item) ++ working.front) (drop (i + 1) order)) h).0 in
           let out = subst (λ (o : Option Item). IsWorked d.items constants o k forms new) at worked.worked in
           record {
             front = text_of (Some item) ++ working.front;
-            behind = both_right (may_follow d.items working.front (Some item)) (is_order_behind d.items (text_of (Some item) ++ working.front) (drop (i + 1) order)) h;
+            behind = (and_parts (may_follow d.items working.front (Some item)) (is_order_behind d.items (text_of (Some item) ++ working.front) (drop (i + 1) order)) h).1;
             kept = worked.kept ∙ working.kept;
             right = worked_right forms new working.front k item working.kept at follows out working.right;
             rest = λ text e. elim (working.rest text e) [
@@ -200,7 +175,7 @@ module _ (d : Desc) (constants : Constants) (distinct : duplicates d ≡ []) (or
   pub all_worked : (forms : List Counts) (i : ℕ) → drop i order ≡ [] → IsWorking d constants order forms i → AreForms d.items constants order forms
   all_worked forms i ended working = record {
     right = λ text called xs ys same.
-        elim (working.rest text (in_order d constants distinct order is_order text called)) [
+        elim (working.rest text (replaced_ordered d.items order is_order text (function_replaced (item_named d.items text) called))) [
           | inl f ↦ working.right text f called xs ys same
           | inr r ↦ absurd (true≢false (sym r ∙ ap (λ (l : List ℕ). is_among text (names_of d.items l)) ended))
         ];

@@ -1,8 +1,9 @@
 -- What the inner names stand for, and what is found of them.
-use Rattle.std.proofs.Common.{◌≡◌, ℕ, suc, ◌+◌, ◌<◌, ◌≤◌, true≢false, Bool, true, false, ◌&&◌, List, map, [], ◌∷◌, length, Option, Some, None, slice_get, refl, sym, ap, ◌∙◌, arith, if◌then◌else◌}
+use Rattle.std.proofs.Common.{◌≡◌, ℕ, suc, ◌+◌, ◌<◌, ◌≤◌, Bool, true, false, List, map, [], ◌∷◌, length, Option, Some, None, slice_get, refl, sym, ap, ◌∙◌, arith, if◌then◌else◌}
 use Rattle.std.specs.Option.{option_map}
 use Rattle.std.specs.Str.{bytes_eq}
-use Rattle.std.proofs.lemmas.Bool.{ltb-true, lt-ltb, leb-true, le-leb}
+use Rattle.std.proofs.lemmas.Bool.{ltb-true, lt-ltb, leb-true, le-leb, and_parts, and_from}
+use Rattle.std.proofs.lemmas.Option.{same_Some}
 use Rattle.vg_ast.specs.declared.item.Item.{Item}
 use Rattle.vg_ast.specs.declared.parameter.Parameter.{Parameter}
 use Rattle.vg_names.specs.Definition.{Text, is_among, fields_of_format}
@@ -100,24 +101,9 @@ position_within k (parameter ∷ more) text position e = by (bytes_eq parameter.
     by true again h = let same : k ≡ position = cc in omega arith
     by false again h = let lt : position < (k + 1) + length more = again h in omega arith
 
-both_left : (a b : Bool) → (a && b) ≡ true → a ≡ true
-both_left true b e = refl
-both_left false b e = e
-
-both_right : (a b : Bool) → (a && b) ≡ true → b ≡ true
-both_right true b e = e
-both_right false b e = absurd (true≢false (sym e))
-
-both : (a b : Bool) → a ≡ true → b ≡ true → (a && b) ≡ true
-both true b e h = h
-both false b e h = absurd (true≢false (sym e))
-
-some_same : {X : Type 0} (a b : X) → Some a ≡ Some b → a ≡ b
-some_same a b e = cc
-
 typed_position : (o : Option ℕ) (found : Found) (slot : ℕ) → option_map (λ position. found_typed (Some position)) o ≡ Some found → found.slot ≡ Some slot → o ≡ Some slot
 typed_position None found slot e h = absurd (cc)
-typed_position (Some position) found slot e h = ap (λ (x : Found). x.slot) (some_same (found_typed (Some position)) found e) ∙ h
+typed_position (Some position) found slot e h = ap (λ (x : Found). x.slot) (same_Some (found_typed (Some position)) found e) ∙ h
 
 -- what is found has one of the slots
 pub found_within : (all : List Item) (parameters : List Parameter) (names : Names) (slots : ℕ) (text : Text) (found : Found) (slot : ℕ)
@@ -126,18 +112,18 @@ found_within all parameters Nothing slots text found slot w e h = absurd (cc)
 found_within all parameters (Fields format) slots text found slot w e h = by (is_among text (fields_of_format (slice_get all format))) e
   where
     by : (b : Bool) → (if b then Some (found_typed None) else None) ≡ Some found → slot < slots
-    by true g = let same : None ≡ Some slot = ap (λ (x : Found). x.slot) (some_same (found_typed None) found g) ∙ h in absurd (cc)
+    by true g = let same : None ≡ Some slot = ap (λ (x : Found). x.slot) (same_Some (found_typed None) found g) ∙ h in absurd (cc)
     by false g = absurd (cc)
 found_within all parameters Parameters slots text found slot w e h =
     let lt : slot < 0 + length parameters = position_within 0 parameters text slot (typed_position (position_from 0 parameters text) found slot e h) in
     let le : length parameters ≤ slots = leb-true (length parameters) slots w in
     omega arith
-found_within all parameters (Let' name inner p outer) slots text found slot w e h = by (bytes_eq name.now.text text) (found_within all parameters outer slots text found slot (both_right (has_slot slots inner.slot) (is_within parameters slots outer) w)) e
+found_within all parameters (Let' name inner p outer) slots text found slot w e h = by (bytes_eq name.now.text text) (found_within all parameters outer slots text found slot (and_parts (has_slot slots inner.slot) (is_within parameters slots outer) w).1) e
   where
     by : (b : Bool) → (found_in all parameters outer text ≡ Some found → found.slot ≡ Some slot → slot < slots) → (if b then Some inner else found_in all parameters outer text) ≡ Some found → slot < slots
     by true again g =
-        let at : inner.slot ≡ Some slot = ap (λ (x : Found). x.slot) (some_same inner found g) ∙ h in
-        ltb-true slot slots (ap (has_slot slots) (sym at) ∙ both_left (has_slot slots inner.slot) (is_within parameters slots outer) w)
+        let at : inner.slot ≡ Some slot = ap (λ (x : Found). x.slot) (same_Some inner found g) ∙ h in
+        ltb-true slot slots (ap (has_slot slots) (sym at) ∙ (and_parts (has_slot slots inner.slot) (is_within parameters slots outer) w).0)
     by false again g = again g h
 
 slot_more : (slots more : ℕ) (slot : Option ℕ) → slots ≤ more → has_slot slots slot ≡ true → has_slot more slot ≡ true
@@ -150,8 +136,8 @@ within_more parameters slots more Nothing le e = refl
 within_more parameters slots more (Fields format) le e = refl
 within_more parameters slots more Parameters le e = let fits : length parameters ≤ slots = leb-true (length parameters) slots e in le-leb (length parameters) more (omega arith)
 within_more parameters slots more (Let' name found p outer) le e =
-    both (has_slot more found.slot) (is_within parameters more outer) (slot_more slots more found.slot le (both_left (has_slot slots found.slot) (is_within parameters slots outer) e))
-    (within_more parameters slots more outer le (both_right (has_slot slots found.slot) (is_within parameters slots outer) e))
+    and_from (has_slot more found.slot) (is_within parameters more outer) (slot_more slots more found.slot le (and_parts (has_slot slots found.slot) (is_within parameters slots outer) e).0)
+    (within_more parameters slots more outer le (and_parts (has_slot slots found.slot) (is_within parameters slots outer) e).1)
 
 slot_agrees : (slots : ℕ) (s t : Sizes) (slot : Option ℕ) → ((i : ℕ) → i < slots → s i ≡ t i) → has_slot slots slot ≡ true → slot_nodes s slot ≡ slot_nodes t slot
 slot_agrees slots s t None same e = refl
@@ -175,5 +161,5 @@ measures_agree all parameters Parameters slots s t same w =
     let le : length parameters ≤ slots = leb-true (length parameters) slots w in
     parameters_agree 0 slots parameters s t same (omega arith)
 measures_agree all parameters (Let' name found p outer) slots s t same w =
-    ap (λ (n : ℕ). (name.now.text, record { worth = found.worth; nodes = n }) ∷ measures all parameters outer s) (slot_agrees slots s t found.slot same (both_left (has_slot slots found.slot) (is_within parameters slots outer) w))
-    ∙ ap (λ (l : Inner Measure). (name.now.text, found_measure t found) ∷ l) (measures_agree all parameters outer slots s t same (both_right (has_slot slots found.slot) (is_within parameters slots outer) w))
+    ap (λ (n : ℕ). (name.now.text, record { worth = found.worth; nodes = n }) ∷ measures all parameters outer s) (slot_agrees slots s t found.slot same (and_parts (has_slot slots found.slot) (is_within parameters slots outer) w).0)
+    ∙ ap (λ (l : Inner Measure). (name.now.text, found_measure t found) ∷ l) (measures_agree all parameters outer slots s t same (and_parts (has_slot slots found.slot) (is_within parameters slots outer) w).1)

@@ -10,6 +10,5 @@ pub mod WorthLemmas
 pub mod CountLemmas
 pub mod StatementLemmas
 pub mod FormLemmas
-pub mod FirstLemmas
 pub mod StatementAgreement
 pub mod ExcessLemmas

@@ -24,7 +24,7 @@ use vg_names::Table;
 use vg_whole::Worth;
 
 /// The fields of a format, as inner names.
-#[tactic(auto, using(crate::proofs::Numbers::numbered_fields, crate::proofs::Numbers::unnumbered_fields))]
+#[tactic(auto, using(vg_names::proofs::InnerLemmas::numbered_fields, vg_names::proofs::InnerLemmas::unnumbered_fields))]
 fn fields_of(format: &Name, context: &Context) -> Names<'static>
     ensures within { (slots : ℕ) → is_within (parameters_of context.now) slots result ≡ true }
     ensures stands_for { (sizes : Sizes) → measures (items_of context.now) (parameters_of context.now) result sizes ≡ field_measures (fields_of_format (item_named (items_of context.now) format.now.text)) }
@@ -74,7 +74,7 @@ fn excess(alloc: Global, item: &Item, context: &Context) -> Result<Option<usize>
 }
 
 /// The first of the items that is such an instruction.
-#[tactic(auto, using(crate::proofs::FirstLemmas::first_steps))]
+#[tactic(auto, using(vg_names::proofs::FirstLemmas::first_steps))]
 fn first_in_items(alloc: Global, context: &Context) -> Result<Option<usize>, AllocError>
     ensures { IfOk result (λ found. found ≡ first_of (in_each (item_excess (items_of context.now) (constants_of context.now) (functions_of context.now)) (items_of context.now))) }
 {

@@ -5,6 +5,7 @@ use Rattle.std.specs.List.{list_any}
 use Rattle.std.specs.Str.{bytes_eq}
 use Rattle.std.proofs.lemmas.List.{append-nil}
 use Rattle.std.proofs.lemmas.List.Folds.{list_any-append}
+use Rattle.std.proofs.lemmas.Bool.{or_parts}
 use Rattle.vg_ast.specs.declared.name.Name.{Name}
 use Rattle.vg_ast.specs.declared.item.Item.{Item}
 use Rattle.vg_ast.specs.declared.item.Item.TheVariants as items
@@ -14,8 +15,8 @@ use Rattle.vg_names.specs.declared.scope.Scope.TheVariants as scopes
 use Rattle.vg_names.specs.Definition.{Text, definition_of, defines}
 use Rattle.vg_names.specs.Duplicate.{Claim, claim, item_claims, claims_from, micro_claims, same_claim, repeated, duplicates}
 use Rattle.vg_names.specs.Table.{number_from}
+use Rattle.vg_names.proofs.Texts.{own_text, same_text}
 use Rattle.vg_order.specs.Numbers.{number_named}
-use Rattle.vg_order.proofs.Lookups.{own_text, same_text}
 
 repeated-append : (front xs ys : List Claim) → repeated front (xs ++ ys) ≡ repeated front xs ++ repeated (front ++ xs) ys
 repeated-append front [] ys = ap (λ (l : List Claim). repeated l ys) (sym (append-nil front))
@@ -72,10 +73,6 @@ claims_name k item name e = by (definition_of item) refl e
         ap (list_any (same_claim (claim scopes.Items name))) c
         ∙ ap (λ (b : Bool). b || list_any (same_claim (claim scopes.Items name)) (rest_of (item_claims k item))) (ap (λ (t : Text). bytes_eq name.text t) (same_text p.0.text name.text h) ∙ own_text name.text)
 
-or_false : (a b : Bool) → (a || b) ≡ false → (a ≡ false) × (b ≡ false)
-or_false true b e = absurd (true≢false e)
-or_false false b e = (refl, e)
-
 -- no item repeats a name that was claimed in front
 fresh_names : (all : List Item) (s : ℕ) (front : List Claim) (k : ℕ) (item : Item) (name : Name) (m : Meaning) → repeated front (claims_from s all) ≡ [] → slice_get all k ≡ Some item → definition_of item ≡ Some (name, m)
     → list_any (same_claim (claim scopes.Items name)) front ≡ false
@@ -87,7 +84,7 @@ fresh_names (first ∷ more) s front zero item name m e at d =
 fresh_names (first ∷ more) s front (suc k) item name m e at d =
     let behind = nothing_right (repeated front (item_claims s first)) (repeated (front ++ item_claims s first) (claims_from (s + 1) more)) (sym (repeated-append front (item_claims s first) (claims_from (s + 1) more)) ∙ e) in
     let h = fresh_names more (s + 1) (front ++ item_claims s first) k item name m behind at d in
-    (or_false (list_any (same_claim (claim scopes.Items name)) front) (list_any (same_claim (claim scopes.Items name)) (item_claims s first))
+    (or_parts (list_any (same_claim (claim scopes.Items name)) front) (list_any (same_claim (claim scopes.Items name)) (item_claims s first))
     (sym (list_any-append (same_claim (claim scopes.Items name)) front (item_claims s first)) ∙ h)).0
 
 -- an item is the first that defines its name
@@ -103,7 +100,7 @@ own_from (first ∷ more) s front (suc k) item name m e at d =
     let behind = nothing_right (repeated front (item_claims s first)) (repeated (front ++ item_claims s first) (claims_from (s + 1) more)) (sym (repeated-append front (item_claims s first) (claims_from (s + 1) more)) ∙ e) in
     let h = fresh_names more (s + 1) (front ++ item_claims s first) k item name m behind at d in
     let other : list_any (same_claim (claim scopes.Items name)) (item_claims s first) ≡ false =
-    (or_false (list_any (same_claim (claim scopes.Items name)) front) (list_any (same_claim (claim scopes.Items name)) (item_claims s first))
+    (or_parts (list_any (same_claim (claim scopes.Items name)) front) (list_any (same_claim (claim scopes.Items name)) (item_claims s first))
     (sym (list_any-append (same_claim (claim scopes.Items name)) front (item_claims s first)) ∙ h)).1 in
     let rest = own_from more (s + 1) (front ++ item_claims s first) k item name m behind at d in
     let n : (s + 1) + k ≡ s + suc k = omega arith in

@@ -5,6 +5,7 @@ pub mod CircleLemmas
 pub mod NameLemmas
 pub mod Lookups
 pub mod Distinct
+pub mod Ordered
 pub mod Lift
 pub mod LiftOrder
 pub mod OrderLemmas

@@ -1,21 +1,24 @@
 -- From an order of the nodes to one of the items.
-use Rattle.std.proofs.Common.{◌≡◌, ℕ, zero, suc, ◌<◌, inl, inr, Bool, true, false, cond, ◌&&◌, ◌||◌, not, List, [], ◌∷◌, ◌++◌, length, Option, Some, None, refl, sym, ap, subst, ◌∙◌, arith, true≢false, if◌then◌else◌}
+use Rattle.std.proofs.Common.{◌≡◌, ℕ, zero, suc, ◌<◌, inl, inr, Bool, true, false, cond, ◌||◌, not, List, [], ◌∷◌, ◌++◌, Option, Some, None, refl, sym, ap, subst, ◌∙◌, true≢false, if◌then◌else◌}
 use Rattle.std.specs.Prelude.{slice_get}
 use Rattle.std.specs.List.{All, Contains, filter, list_all}
 use Rattle.std.specs.Str.{bytes_eq}
 use Rattle.std.proofs.lemmas.List.{length-map}
 use Rattle.std.proofs.lemmas.List.Elements.{All-contains, Contains-append_left, Contains-append_right, Contains-append_cases, Contains-push}
+use Rattle.std.proofs.lemmas.Bool.{and_from}
+use Rattle.std.proofs.lemmas.Option.{slice_get_within}
 use Rattle.vg_ast.specs.declared.name.Name.{Name}
 use Rattle.vg_ast.specs.declared.item.Item.{Item}
 use Rattle.vg_ast.specs.declared.desc.Desc.{Desc}
 use Rattle.vg_names.specs.Definition.{Text, item_named, is_among}
 use Rattle.vg_names.specs.Duplicate.{duplicates}
+use Rattle.vg_names.proofs.Texts.{same_text, among_first, among_right, all_of_each}
 use Rattle.vg_order.specs.Uses.{uses_of}
 use Rattle.vg_order.specs.Cyclic.{replaced_name, is_replaced, has_name, text_of_name, text_of, names_of, is_before, is_fresh, may_follow, is_order_behind, replaced_names, IsOrder}
 use Rattle.vg_order.specs.Graph.{uses_at, IsBehind, IsSorting}
 use Rattle.vg_order.specs.Numbers.{number_named, with_numbers, graph_of}
 use Rattle.vg_order.proofs.Nodes.{none, only}
-use Rattle.vg_order.proofs.Lookups.{own_text, same_text, item_of_number, number_of_replaced, replaced_defined, text_of_number, item_of_replaced, uses_of_node, use_of_name}
+use Rattle.vg_order.proofs.Lookups.{item_of_number, number_of_replaced, replaced_defined, text_of_number, item_of_replaced, uses_of_node, use_of_name}
 use Rattle.vg_order.proofs.Distinct.{own_number}
 use Rattle.vg_order.proofs.Lift.{is_replaced_at, some_same}
 
@@ -23,29 +26,10 @@ use Rattle.vg_order.proofs.Lift.{is_replaced_at, some_same}
 abbrev Covers : List Item → List ℕ → List Text → Type 0
 Covers all front names = (j : ℕ) → Contains front j → (text : Text) → number_named all text ≡ Some j → is_replaced_at all j ≡ true → is_among text names ≡ true
 
-among_right : (text : Text) (a b : List Text) → is_among text b ≡ true → is_among text (a ++ b) ≡ true
-among_right text [] b e = e
-among_right text (first ∷ a) b e = by (bytes_eq first text) (among_right text a b e)
-  where
-    by : (t : Bool) → is_among text (a ++ b) ≡ true → (if t then true else is_among text (a ++ b)) ≡ true
-    by true h = refl
-    by false h = h
-
-among_first : (text : Text) (more : List Text) → is_among text (text ∷ more) ≡ true
-among_first text more = ap (λ (t : Bool). if t then true else is_among text more) (own_text text)
-
-both : (a b : Bool) → a ≡ true → b ≡ true → (a && b) ≡ true
-both true b e h = h
-both false b e h = absurd (true≢false (sym e))
-
-list_all_each : (test : Text → Bool) (texts : List Text) → ((text : Text) → is_among text texts ≡ true → test text ≡ true) → list_all test texts ≡ true
-list_all_each test [] h = refl
-list_all_each test (first ∷ more) h = both (test first) (list_all test more) (h first (among_first first more)) (list_all_each test more (λ text e. h text (among_right text (first ∷ []) more e)))
-
 -- what a node uses stands in front
 before : (all : List Item) (front : List ℕ) (names : List Text) (k : ℕ) (item : Item) → Covers all front names → slice_get all k ≡ Some item → All (Contains front) (uses_at (graph_of all) k)
     → list_all (is_before all names) (uses_of item) ≡ true
-before all front names k item covers at uses = list_all_each (is_before all names) (uses_of item) (λ text among. by text among (is_replaced (item_named all text)) refl)
+before all front names k item covers at uses = all_of_each (is_before all names) (uses_of item) (λ text among. by text among (is_replaced (item_named all text)) refl)
   where
     by : (text : Text) → is_among text (uses_of item) ≡ true → (r : Bool) → is_replaced (item_named all text) ≡ r → (not r || is_among text names) ≡ true
     by text among false e = refl
@@ -107,9 +91,9 @@ order_behind all (k ∷ ks) front names owns covers stems h = by (is_replaced_at
         let texts : text_of (slice_get all k) ≡ i.1.text ∷ [] = ap text_of i.2 ∙ named in
         let own = owns k i.0 i.1 i.2 i.3 in
         let rest = again (k ∷ front) (i.1.text ∷ names) (covers_more all front names k i.0 i.1 covers i.2 i.3) (stems_more all front names k i.1 stems own) h.2 in
-        both (may_follow all names (slice_get all k)) (is_order_behind all (text_of (slice_get all k) ++ names) (filter (is_replaced_at all) ks))
+        and_from (may_follow all names (slice_get all k)) (is_order_behind all (text_of (slice_get all k) ++ names) (filter (is_replaced_at all) ks))
         (ap (may_follow all names) i.2
-        ∙ both (is_fresh names (replaced_name i.0)) (list_all (is_before all names) (uses_of i.0))
+        ∙ and_from (is_fresh names (replaced_name i.0)) (list_all (is_before all names) (uses_of i.0))
         (ap (is_fresh names) i.3 ∙ fresh all front names k i.1 stems own h.0)
         (before all front names k i.0 covers i.2 h.1))
         (ap (λ (l : List Text). is_order_behind all (l ++ names) (filter (is_replaced_at all) ks)) texts ∙ rest)
@@ -133,11 +117,6 @@ named_in all (first ∷ ks) k item name c at named = elim (Contains-append_cases
   | inr b ↦ among_right name.text (text_of (slice_get all first)) (names_of all ks) (named_in all ks k item name b at named)
 ]
 
-within_list : (all : List Item) (k : ℕ) (item : Item) → slice_get all k ≡ Some item → k < length all
-within_list [] k item e = absurd (cc)
-within_list (x ∷ xs) zero item e = omega arith
-within_list (x ∷ xs) (suc k) item e = let h : k < length xs = within_list xs k item e in omega arith
-
 -- each name of an item passes a test that those of its places pass
 each_name : (test : Text → Bool) (all : List Item) → ((k : ℕ) (item : Item) (name : Name) → slice_get all k ≡ Some item → replaced_name item ≡ Some name → test name.text ≡ true) → list_all test (replaced_names all) ≡ true
 each_name test [] h = refl
@@ -145,7 +124,7 @@ each_name test (item ∷ more) h = by (replaced_name item) (each_name test more 
   where
     by : (o : Option Name) → list_all test (replaced_names more) ≡ true → replaced_name item ≡ o → list_all test (text_of_name o ++ replaced_names more) ≡ true
     by None rest e = rest
-    by (Some name) rest e = both (test name.text) (list_all test (replaced_names more)) (h zero item name refl e) rest
+    by (Some name) rest e = and_from (test name.text) (list_all test (replaced_names more)) (h zero item name refl e) rest
 
 pub sorted_order : (d : Desc) (order : List ℕ) → duplicates d ≡ [] → IsSorting (graph_of d.items) order → IsOrder d.items (filter (is_replaced_at d.items) order)
 sorted_order d order distinct h =
@@ -157,6 +136,6 @@ sorted_order d order distinct h =
       complete = each_name (λ (text : Text). is_among text (names_of all kept)) all
           (λ k item name at named.
           named_in all kept k item name
-          (filtered (is_replaced_at all) order k (h.complete k (subst (λ (n : ℕ). k < n) (sym (length-map all (λ (item : Item). with_numbers (number_named all) [] (uses_of item)))) (within_list all k item at))) (ap is_replaced at ∙ ap has_name named))
+          (filtered (is_replaced_at all) order k (h.complete k (subst (λ (n : ℕ). k < n) (sym (length-map all (λ (item : Item). with_numbers (number_named all) [] (uses_of item)))) (slice_get_within all k item at))) (ap is_replaced at ∙ ap has_name named))
           at named);
     }

@@ -1,10 +1,9 @@
 -- The numbers of names, and the items that have them.
-use Rattle.std.proofs.Common.{◌≡◌, ℕ, zero, suc, ◌+◌, inl, inr, Bool, true, false, List, [], ◌∷◌, map, get_or, Option, Some, None, refl, sym, ap, subst, ◌∙◌, arith, true≢false, if◌then◌else◌}
+use Rattle.std.proofs.Common.{◌≡◌, ℕ, zero, suc, inl, inr, Bool, true, false, List, [], ◌∷◌, map, get_or, Option, Some, None, refl, sym, ap, subst, ◌∙◌, true≢false, if◌then◌else◌}
 use Rattle.std.specs.Prelude.{slice_get}
 use Rattle.std.specs.List.{Contains}
 use Rattle.std.specs.Option.{option_to_list}
 use Rattle.std.specs.Str.{bytes_eq}
-use Rattle.std.specs.Cmp.Lexicographic.{bytes_decides}
 use Rattle.std.proofs.lemmas.List.Elements.{Contains-append_left, Contains-append_right, Contains-append_cases, Contains-push}
 use Rattle.vg_ast.specs.declared.name.Name.{Name}
 use Rattle.vg_ast.specs.declared.item.Item.{Item}
@@ -12,50 +11,24 @@ use Rattle.vg_ast.specs.declared.item.Item.TheVariants as items
 use Rattle.vg_names.specs.declared.meaning.Meaning.{Meaning}
 use Rattle.vg_names.specs.declared.meaning.Meaning.TheVariants as meanings
 use Rattle.vg_names.specs.Definition.{Text, definition_of, defines, item_named, is_among}
-use Rattle.vg_names.specs.Table.{number_from}
+use Rattle.vg_names.proofs.Texts.{same_text, own_text}
+use Rattle.vg_names.proofs.InnerLemmas.{numbered_item, unnumbered_item}
 use Rattle.vg_order.specs.Uses.{uses_of}
 use Rattle.vg_order.specs.Cyclic.{replaced_name, has_name, is_replaced}
 use Rattle.vg_order.specs.Graph.{uses_at}
 use Rattle.vg_order.specs.Numbers.{number_named, numbers_of, with_numbers, graph_of}
 use Rattle.vg_order.proofs.Nodes.{none, only}
 
-pub same_text : (a b : Text) → bytes_eq a b ≡ true → a ≡ b
-same_text a b e = (bytes_decides a b).0 e
-
-pub own_text : (a : Text) → bytes_eq a a ≡ true
-own_text a = (bytes_decides a a).1 refl
-
 -- a number is that of the item of the name
-pub item_numbered : (all : List Item) (s : ℕ) (text : Text) (k : ℕ) → number_from s all text ≡ Some k → (j : ℕ) × (k ≡ s + j) × (slice_get all j ≡ item_named all text)
-item_numbered [] s text k e = absurd (cc)
-item_numbered (item ∷ more) s text k e = by (defines text (definition_of item)) (item_numbered more (s + 1) text k) e
-  where
-    by : (b : Bool) → (number_from (s + 1) more text ≡ Some k → (j : ℕ) × (k ≡ (s + 1) + j) × (slice_get more j ≡ item_named more text))
-        → (if b then Some s else number_from (s + 1) more text) ≡ Some k → (j : ℕ) × (k ≡ s + j) × (slice_get (item ∷ more) j ≡ (if b then Some item else item_named more text))
-    by true again h = let same : s ≡ k = cc in (zero, omega arith, refl)
-    by false again h = let rest = again h in (suc rest.0, (let e : k ≡ (s + 1) + rest.0 = rest.1 in omega arith), rest.2)
-
 pub item_of_number : (all : List Item) (text : Text) (k : ℕ) → number_named all text ≡ Some k → slice_get all k ≡ item_named all text
-item_of_number all text k e =
-    let found = item_numbered all 0 text k e in
-    let same : k ≡ found.0 = (let h : k ≡ 0 + found.0 = found.1 in omega arith) in
-    ap (slice_get all) same ∙ found.2
-
--- a name without a number has no item
-unnumbered : (all : List Item) (s : ℕ) (text : Text) → number_from s all text ≡ None → item_named all text ≡ None
-unnumbered [] s text e = refl
-unnumbered (item ∷ more) s text e = by (defines text (definition_of item)) (unnumbered more (s + 1) text) e
-  where
-    by : (b : Bool) → (number_from (s + 1) more text ≡ None → item_named more text ≡ None) → (if b then Some s else number_from (s + 1) more text) ≡ None → (if b then Some item else item_named more text) ≡ None
-    by true again h = absurd (cc)
-    by false again h = again h
+item_of_number all text k e = numbered_item all text k (sym e)
 
 pub number_of_replaced : (all : List Item) (text : Text) → is_replaced (item_named all text) ≡ true → (k : ℕ) × (number_named all text ≡ Some k)
 number_of_replaced all text e = by (number_named all text) refl
   where
     by : (o : Option ℕ) → number_named all text ≡ o → (k : ℕ) × (number_named all text ≡ Some k)
     by (Some k) h = (k, h)
-    by None h = absurd (true≢false (sym e ∙ ap is_replaced (unnumbered all 0 text h)))
+    by None h = absurd (true≢false (sym e ∙ ap is_replaced (sym (unnumbered_item all text (sym h)))))
 
 -- the item of a name defines it
 pub named_defines : (all : List Item) (text : Text) (item : Item) → item_named all text ≡ Some item → defines text (definition_of item) ≡ true

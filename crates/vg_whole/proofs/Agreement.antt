@@ -1,12 +1,12 @@
 -- What an expression is worth depends on what its names of items are worth alone.
-use Rattle.std.proofs.Common.{◌≡◌, ℕ, Bool, true, false, List, map, [], ◌∷◌, ◌++◌, Some, sym, ap, subst, ◌∙◌, refl, true≢false, if◌then◌else◌}
+use Rattle.std.proofs.Common.{◌≡◌, ℕ, Bool, true, false, List, map, [], ◌∷◌, ◌++◌, Some, sym, ap, subst, ◌∙◌, refl, if◌then◌else◌}
 use Rattle.std.specs.Str.{bytes_eq}
 use Rattle.vg_ast.specs.declared.name.Name.{Name}
 use Rattle.vg_ast.specs.declared.type_expr.TypeExpr.TheVariants as types
 use Rattle.vg_ast.specs.declared.expr.Expr.{Expr, fold-roll-Expr, roll-Expr, ind-Expr, map-Expr}
 use Rattle.vg_ast.specs.declared.expr.Expr.TheOpen.{Expr-F}
 use Rattle.vg_names.specs.Definition.{Text, is_among}
-use Rattle.vg_order.proofs.Lookups.{own_text}
+use Rattle.vg_names.proofs.Texts.{among_first, among_left, among_right}
 use Rattle.vg_order.specs.Uses.{Names, outer, all_of, names_step, expression_names}
 use Rattle.vg_whole.specs.declared.worth.Worth.{Worth}
 use Rattle.vg_whole.specs.Whole.{Inner, inner_of, or_else, binary_whole, operator_places, has_type, Constants, Judges, Judged, places_of_all, judged_step, judged}
@@ -17,22 +17,6 @@ texts_of inner = map (λ (x : Text × Worth). x.0) inner
 -- two ways to value names agree on these
 abbrev pub Agree : Constants → Constants → List Text → Type 0
 Agree a b names = (text : Text) → is_among text names ≡ true → a text ≡ b text
-
-pub among_left : (text : Text) (a b : List Text) → is_among text a ≡ true → is_among text (a ++ b) ≡ true
-among_left text [] b e = absurd (true≢false (sym e))
-among_left text (first ∷ a) b e = by (bytes_eq first text) (among_left text a b) e
-  where
-    by : (t : Bool) → (is_among text a ≡ true → is_among text (a ++ b) ≡ true) → (if t then true else is_among text a) ≡ true → (if t then true else is_among text (a ++ b)) ≡ true
-    by true again h = refl
-    by false again h = again h
-
-pub among_right : (text : Text) (a b : List Text) → is_among text b ≡ true → is_among text (a ++ b) ≡ true
-among_right text [] b e = e
-among_right text (first ∷ a) b e = by (bytes_eq first text) (among_right text a b e)
-  where
-    by : (t : Bool) → is_among text (a ++ b) ≡ true → (if t then true else is_among text (a ++ b)) ≡ true
-    by true h = refl
-    by false h = h
 
 agree_left : (a b : Constants) (xs ys : List Text) → Agree a b (xs ++ ys) → Agree a b xs
 agree_left a b xs ys same text e = same text (among_left text xs ys e)
@@ -65,7 +49,7 @@ module _ (a b : Constants) where
   hidden_or_same name inner same = by inner (λ e. same name.text e)
     where
       own : (text : Text) → is_among text (text ∷ []) ≡ true
-      own text = ap (λ (t : Bool). if t then true else false) (own_text text)
+      own text = among_first text []
 
       by : (inner : Inner Worth) → (is_among name.text (if is_among name.text (texts_of inner) then [] else name.text ∷ []) ≡ true → a name.text ≡ b name.text) → or_else (inner_of inner name.text) (a name.text) ≡ or_else (inner_of inner name.text) (b name.text)
       by [] h = h (own name.text)

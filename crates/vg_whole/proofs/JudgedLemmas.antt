@@ -16,7 +16,7 @@ use Rattle.vg_whole.specs.declared.worth.Worth.{Worth}
 use Rattle.vg_whole.specs.declared.worth.Worth.TheVariants as worths
 use Rattle.vg_whole.specs.Whole.{Inner, inner_of, or_else, binary_whole, operator_places, Constants, Judges, places_of_all, judged_step, judged}
 use Rattle.vg_whole.specs.Overflow.{type_overflows}
-use Rattle.vg_whole.proofs.FirstLemmas.{first_of_append, first_of_three, first_within}
+use Rattle.vg_names.proofs.FirstLemmas.{first_of_append, first_of_three, first_within}
 
 judged-Number : (c : Constants) (value : ℕ) (at : ℕ) → judged c (tree.Number value at) ≡ judged_step c (Expr-F.Number value at)
 judged-Number c value at = ap (λ e. judged c e) (sym (rolls-Number value at)) ∙ fold-roll-Expr Judges (judged_step c) (Expr-F.Number value at)

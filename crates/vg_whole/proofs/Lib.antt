@@ -1,7 +1,5 @@
 pub mod BindingLemmas
-pub mod FirstLemmas
 pub mod JudgedLemmas
 pub mod StatementLemmas
-pub mod Numbers
 pub mod Agreement
 pub mod WorkingLemmas

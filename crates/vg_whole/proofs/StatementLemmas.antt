@@ -12,7 +12,7 @@ use Rattle.vg_names.specs.First.{first_of}
 use Rattle.vg_whole.specs.declared.worth.Worth.{Worth}
 use Rattle.vg_whole.specs.Whole.{Inner, Constants, judged}
 use Rattle.vg_whole.specs.Overflow.{Places, all_of, expression_overflows, goal_overflows, statement_step, statement_overflows}
-use Rattle.vg_whole.proofs.FirstLemmas.{first_of_append, first_of_three}
+use Rattle.vg_names.proofs.FirstLemmas.{first_of_append, first_of_three}
 
 pub first-Block : (c : Constants) (inner : Inner Worth) (at : ℕ) (body : List Statement) → first_of (statement_overflows c (tree.Block at body) inner) ≡ first_of (all_of (map (statement_overflows c) body) inner)
 first-Block c inner at body =

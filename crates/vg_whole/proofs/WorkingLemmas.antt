@@ -1,70 +1,31 @@
 -- Working out the constants in an order in which each stands behind all that it uses.
 use borrow.Author.Tests.{eqb-true}
-use Rattle.std.proofs.Common.{eq-eqb, ◌≡◌, ℕ, zero, suc, ◌+◌, ◌<◌, Bool, true, false, not, ◌&&◌, ◌||◌, nat_eq, List, [], ◌∷◌, ◌++◌, length, set, get_or, drop, replicate, add-one, Option, Some, None, refl, sym, ap, subst, ◌∙◌, arith, true≢false, if◌then◌else◌}
-use Rattle.std.specs.Prelude.{slice_get, IsTrue}
+use Rattle.std.proofs.Common.{eq-eqb, ◌≡◌, ℕ, zero, suc, ◌+◌, ◌<◌, Bool, true, false, not, ◌||◌, nat_eq, List, [], ◌∷◌, ◌++◌, length, set, get_or, drop, replicate, Option, Some, None, refl, sym, ap, subst, ◌∙◌, arith, true≢false, if◌then◌else◌}
+use Rattle.std.specs.Prelude.{slice_get}
 use Rattle.std.specs.Str.{bytes_eq}
 use Rattle.std.specs.List.{All, list_all}
-use Rattle.std.proofs.Math.Seq.{drop-cons}
-use Rattle.std.proofs.lemmas.List.{length-set, length-replicate, get_or-set_same, get_or-set_other}
+use Rattle.std.proofs.lemmas.List.{length-set, length-replicate, get_or-set_same, get_or-set_other, drop_more}
+use Rattle.std.proofs.lemmas.Bool.{and_parts, or_right}
+use Rattle.std.proofs.lemmas.Option.{slice_get_within, slice_get-get_or}
 use Rattle.vg_ast.specs.declared.name.Name.{Name}
 use Rattle.vg_ast.specs.declared.item.Item.{Item}
 use Rattle.vg_ast.specs.declared.item.Item.TheVariants as items
 use Rattle.vg_ast.specs.declared.desc.Desc.{Desc}
-use Rattle.vg_names.specs.Definition.{Text, definition_of, defines, item_named, is_among}
+use Rattle.vg_names.specs.Definition.{Text, item_named, is_among}
 use Rattle.vg_names.specs.Duplicate.{duplicates}
 use Rattle.vg_names.specs.Table.{number_from}
+use Rattle.vg_names.proofs.Texts.{same_text, among_right, among_moved, among_all, each_of, all_of_each}
+use Rattle.vg_names.proofs.InnerLemmas.{unnumbered_item}
 use Rattle.vg_order.specs.Uses.{uses_of}
-use Rattle.vg_order.specs.Cyclic.{replaced_name, has_name, is_replaced, text_of_name, text_of, names_of, is_before, is_fresh, may_follow, is_order_behind, replaced_names, IsOrder}
-use Rattle.vg_order.proofs.Lookups.{same_text, own_text, replaced_defined, item_of_number}
+use Rattle.vg_order.specs.Cyclic.{replaced_name, has_name, is_replaced, text_of_name, text_of, names_of, is_before, is_fresh, may_follow, is_order_behind, IsOrder}
+use Rattle.vg_order.proofs.Lookups.{replaced_defined, item_of_number}
 use Rattle.vg_order.proofs.Distinct.{own_number}
+use Rattle.vg_order.proofs.Ordered.{before_front, replaced_ordered, ordered, nothing_left}
 use Rattle.vg_whole.specs.declared.worth.Worth.{Worth}
 use Rattle.vg_whole.specs.declared.worth.Worth.TheVariants as worths
 use Rattle.vg_whole.specs.Whole.{Constants, constant_whole, Judged, AreConstants}
 use Rattle.vg_whole.specs.Worths.{worth_at, constants_by, IsConstant, AreWorths}
-use Rattle.vg_whole.proofs.Agreement.{Agree, alike, among_right}
-use Rattle.vg_whole.proofs.Numbers.{unnumbered_item}
-
-both_left : (a b : Bool) → (a && b) ≡ true → a ≡ true
-both_left true b e = refl
-both_left false b e = e
-
-both_right : (a b : Bool) → (a && b) ≡ true → b ≡ true
-both_right true b e = e
-both_right false b e = absurd (true≢false (sym e))
-
-both : (a b : Bool) → a ≡ true → b ≡ true → (a && b) ≡ true
-both true b e h = h
-both false b e h = absurd (true≢false (sym e))
-
-or_true : (a : Bool) → (a || true) ≡ true
-or_true true = refl
-or_true false = refl
-
-is_true : (b : Bool) → IsTrue b → b ≡ true
-is_true b t = t
-
--- each of a list passes a test that all pass
-each_of : (test : Text → Bool) (texts : List Text) → list_all test texts ≡ true → (text : Text) → is_among text texts ≡ true → test text ≡ true
-each_of test [] h text e = absurd (true≢false (sym e))
-each_of test (first ∷ more) h text e = by (bytes_eq first text) refl (each_of test more (both_right (test first) (list_all test more) h) text) e
-  where
-    by : (b : Bool) → bytes_eq first text ≡ b → (is_among text more ≡ true → test text ≡ true) → (if b then true else is_among text more) ≡ true → test text ≡ true
-    by true same again among = ap test (sym (same_text first text same)) ∙ both_left (test first) (list_all test more) h
-    by false other again among = again among
-
-all_of_each : (test : Text → Bool) (texts : List Text) → ((text : Text) → is_among text texts ≡ true → test text ≡ true) → list_all test texts ≡ true
-all_of_each test [] h = refl
-all_of_each test (first ∷ more) h =
-    both (test first) (list_all test more) (h first (ap (λ (b : Bool). if b then true else is_among first more) (own_text first)))
-    (all_of_each test more (λ text e. h text (among_right text (first ∷ []) more e)))
-
-among_append : (text : Text) (a b : List Text) → is_among text (a ++ b) ≡ (is_among text a || is_among text b)
-among_append text [] b = refl
-among_append text (first ∷ a) b = by (bytes_eq first text) (among_append text a b)
-  where
-    by : (t : Bool) → is_among text (a ++ b) ≡ (is_among text a || is_among text b) → (if t then true else is_among text (a ++ b)) ≡ ((if t then true else is_among text a) || is_among text b)
-    by true h = refl
-    by false h = h
+use Rattle.vg_whole.proofs.Agreement.{Agree, alike}
 
 -- what stands in front of more names is before them
 before_more : (all : List Item) (more front : List Text) (text : Text) → is_before all front text ≡ true → is_before all (more ++ front) text ≡ true
@@ -75,10 +36,7 @@ before_more all more front text e = by (not (is_replaced (item_named all text)))
     by false h = among_right text more front h
 
 among_before : (all : List Item) (front : List Text) (text : Text) → is_among text front ≡ true → is_before all front text ≡ true
-among_before all front text e = ap (λ (b : Bool). not (is_replaced (item_named all text)) || b) e ∙ or_true (not (is_replaced (item_named all text)))
-
-before_among : (all : List Item) (front : List Text) (text : Text) → is_before all front text ≡ true → is_replaced (item_named all text) ≡ true → is_among text front ≡ true
-before_among all front text e r = sym (ap (λ (b : Bool). not b || is_among text front) r) ∙ e
+among_before all front text e = or_right (not (is_replaced (item_named all text))) (is_among text front) e
 
 -- What two ways to value names make of an item.
 
@@ -148,14 +106,14 @@ next all front k e = by (slice_get all k) refl e
     by : (o : Option Item) → slice_get all k ≡ o → may_follow all front o ≡ true → (item : Item) × (name : Name) × IsNext all front k item name
     by None at h = absurd (true≢false (sym h))
     by (Some item) at h =
-        let n = named (replaced_name item) (both_left (is_fresh front (replaced_name item)) (list_all (is_before all front) (uses_of item)) h) in (
+        let n = named (replaced_name item) (and_parts (is_fresh front (replaced_name item)) (list_all (is_before all front) (uses_of item)) h).0 in (
           item,
           n.0,
           record {
             at = at;
             named = n.1;
             texts = ap text_of at ∙ ap text_of_name n.1;
-            used = both_right (is_fresh front (replaced_name item)) (list_all (is_before all front) (uses_of item)) h;
+            used = (and_parts (is_fresh front (replaced_name item)) (list_all (is_before all front) (uses_of item)) h).1;
           },
         )
 
@@ -165,91 +123,29 @@ own_item d front k item name distinct n =
     let m = replaced_defined item name n.named in
     own_number d k item name m.0 distinct n.at m.1
 
--- one more name is in front
-moved : (all : List Item) (front : List Text) (k : ℕ) (ks : List ℕ) (text : Text) → (is_among text front || is_among text (names_of all (k ∷ ks))) ≡ true
-    → (is_among text (text_of (slice_get all k) ++ front) || is_among text (names_of all ks)) ≡ true
-moved all front k ks text e =
-    let names = text_of (slice_get all k) in
-    ap (λ (x : Bool). x || is_among text (names_of all ks)) (among_append text names front)
-    ∙ by (is_among text front) (is_among text names) (is_among text (names_of all ks)) (sym (ap (λ (x : Bool). is_among text front || x) (among_append text names (names_of all ks))) ∙ e)
-  where
-    by : (f n r : Bool) → (f || (n || r)) ≡ true → ((n || f) || r) ≡ true
-    by f true r h = refl
-    by true false r h = refl
-    by false false r h = h
-
-not_true : (r : Bool) → (not r || false) ≡ true → r ≡ false
-not_true true e = absurd (true≢false (sym e))
-not_true false e = refl
-
-replaced_has : (item : Item) → has_name (replaced_name item) ≡ true → (name : Name) × (replaced_name item ≡ Some name)
-replaced_has item e = by (replaced_name item) refl e
-  where
-    by : (o : Option Name) → replaced_name item ≡ o → has_name o ≡ true → (name : Name) × (replaced_name item ≡ Some name)
-    by None h r = absurd (true≢false (sym r))
-    by (Some name) h r = (name, h)
-
--- the name of an item that is put in place is among the names of all such
-named_replaced : (all : List Item) (text : Text) → is_replaced (item_named all text) ≡ true → is_among text (replaced_names all) ≡ true
-named_replaced [] text r = absurd (true≢false (sym r))
-named_replaced (item ∷ more) text r = by (defines text (definition_of item)) refl (named_replaced more text) r
-  where
-    by : (b : Bool) → defines text (definition_of item) ≡ b → (is_replaced (item_named more text) ≡ true → is_among text (replaced_names more) ≡ true)
-        → is_replaced (if b then Some item else item_named more text) ≡ true → is_among text (text_of_name (replaced_name item) ++ replaced_names more) ≡ true
-    by true is again h =
-        let n = replaced_has item h in
-        let m = replaced_defined item n.0 n.1 in
-        let same : bytes_eq n.0.text text ≡ true = sym (ap (defines text) m.1) ∙ is in
-        ap (λ (o : Option Name). is_among text (text_of_name o ++ replaced_names more)) n.1 ∙ ap (λ (b : Bool). if b then true else is_among text (replaced_names more)) same
-    by false is again h = among_right text (text_of_name (replaced_name item)) (replaced_names more) (again h)
-
 -- There is one way to value the names.
 
 module _ (d : Desc) (a b : Constants) (distinct : duplicates d ≡ []) (of_a : AreConstants d.items a) (of_b : AreConstants d.items b) where
-  only_step : (front : List Text) (k : ℕ) → AgreeFront d.items a b front → may_follow d.items front (slice_get d.items k) ≡ true → AgreeFront d.items a b (text_of (slice_get d.items k) ++ front)
-  only_step front k same e =
-      let n = next d.items front k e in
-      let item = n.0 in
-      let name = n.1 in
-      let found : item_named d.items name.text ≡ Some item = sym (item_of_number d.items name.text k (own_item d front k item name distinct n.2)) ∙ n.2.at in
-      let own : a name.text ≡ b name.text =
-      of_a name.text ∙ ap (constant_whole a) found ∙ same_used d.items a b front item same n.2.used ∙ sym (ap (constant_whole b) found) ∙ sym (of_b name.text) in
-      subst (λ (l : List Text). AgreeFront d.items a b (l ++ front)) (sym n.2.texts) (λ text e. by name.text text own (bytes_eq name.text text) refl (same text) e)
-    where
-      by : (name text : Text) → a name ≡ b name → (t : Bool) → bytes_eq name text ≡ t → (is_before d.items front text ≡ true → a text ≡ b text)
-          → (not (is_replaced (item_named d.items text)) || (if t then true else is_among text front)) ≡ true → a text ≡ b text
-      by name text own true same again e = subst (λ (x : Text). a x ≡ b x) (same_text name text same) own
-      by name text own false other again e = again e
-
-  only_behind : (order : List ℕ) (front : List Text) → AgreeFront d.items a b front → is_order_behind d.items front order ≡ true
-      → (text : Text) → (is_among text front || is_among text (names_of d.items order)) ≡ true → a text ≡ b text
-  only_behind [] front same behind text e = same text (among_before d.items front text (or_none (is_among text front) e))
-    where
-      or_none : (x : Bool) → (x || false) ≡ true → x ≡ true
-      or_none true h = refl
-      or_none false h = h
-  only_behind (k ∷ ks) front same behind text e =
-      let here = both_left (may_follow d.items front (slice_get d.items k)) (is_order_behind d.items (text_of (slice_get d.items k) ++ front) ks) behind in
-      let rest = both_right (may_follow d.items front (slice_get d.items k)) (is_order_behind d.items (text_of (slice_get d.items k) ++ front) ks) behind in
-      only_behind ks (text_of (slice_get d.items k) ++ front) (only_step front k same here) rest text (moved d.items front k ks text e)
-
   -- what isn't replaced is typed by both
+  typed : (text : Text) → is_replaced (item_named d.items text) ≡ false → a text ≡ b text
+  typed text r =
+      of_a text ∙ not_constant a (item_named d.items text) (not_replaced (item_named d.items text) r)
+      ∙ sym (not_constant b (item_named d.items text) (not_replaced (item_named d.items text) r)) ∙ sym (of_b text)
+
+  next_same : (n : ℕ) (item : Item) (text : Text) → item_named d.items text ≡ Some item → ((used : Text) → is_among used (uses_of item) ≡ true → is_replaced (item_named d.items used) ≡ true → a used ≡ b used) → a text ≡ b text
+  next_same n item text named same =
+      of_a text ∙ ap (constant_whole a) named ∙ same_item a b item (λ used among. by used among (is_replaced (item_named d.items used)) refl) ∙ sym (ap (constant_whole b) named) ∙ sym (of_b text)
+    where
+      by : (used : Text) → is_among used (uses_of item) ≡ true → (r : Bool) → is_replaced (item_named d.items used) ≡ r → a used ≡ b used
+      by used among true r = same used among r
+      by used among false r = typed used r
+
   pub only : (order : List ℕ) → IsOrder d.items order → (text : Text) → a text ≡ b text
   only order is text = by (is_replaced (item_named d.items text)) refl
     where
-      typed : (text : Text) → is_replaced (item_named d.items text) ≡ false → a text ≡ b text
-      typed text r =
-          of_a text ∙ not_constant a (item_named d.items text) (not_replaced (item_named d.items text) r)
-          ∙ sym (not_constant b (item_named d.items text) (not_replaced (item_named d.items text) r)) ∙ sym (of_b text)
-
-      start : (text : Text) → is_before d.items [] text ≡ true → a text ≡ b text
-      start text e = typed text (not_true (is_replaced (item_named d.items text)) e)
-
       by : (r : Bool) → is_replaced (item_named d.items text) ≡ r → a text ≡ b text
+      by true r = ordered d distinct (λ (n : ℕ) (t : Text). a t ≡ b t) (λ i j t le h. h) next_same order is text r
       by false r = typed text r
-      by true r = only_behind order [] start (is_true (is_order_behind d.items [] order) is.behind) text
-          (each_of (λ (t : Text). is_among t (names_of d.items order)) (replaced_names d.items) (is_true (list_all (λ (t : Text). is_among t (names_of d.items order)) (replaced_names d.items)) is.complete) text
-          (named_replaced d.items text r))
 
 pub only_one : (d : Desc) (order : List ℕ) (a b : Constants) → duplicates d ≡ [] → IsOrder d.items order → AreConstants d.items a → AreConstants d.items b → (text : Text) → a text ≡ b text
 only_one d order a b distinct is of_a of_b text = only d a b distinct of_a of_b order is text
@@ -261,17 +157,17 @@ pub record IsWorking (all : List Item) (list : List Worth) (front : List Text) (
   pub behind : is_order_behind all front rest ≡ true
   pub known : (text : Text) → is_among text front ≡ true → constants_by all list text ≡ constant_whole (constants_by all list) (item_named all text)
   pub closed : (text : Text) (item : Item) → is_among text front ≡ true → item_named all text ≡ Some item → list_all (is_before all front) (uses_of item) ≡ true
-  pub complete : (text : Text) → is_among text (replaced_names all) ≡ true → (is_among text front || is_among text (names_of all rest)) ≡ true
+  pub complete : (text : Text) → is_replaced (item_named all text) ≡ true → (is_among text front || is_among text (names_of all rest)) ≡ true
 
 -- before the first
 pub start : (all : List Item) (order : List ℕ) → IsOrder all order → IsWorking all (replicate (length all) worths.Typed) [] order
 start all order is = record {
   one_each = length-replicate (length all) worths.Typed;
   typed = λ k h. all_typed (length all) k;
-  behind = is_true (is_order_behind all [] order) is.behind;
+  behind = is.behind;
   known = λ text e. absurd (true≢false (sym e));
   closed = λ text item e named. absurd (true≢false (sym e));
-  complete = λ text e. each_of (λ (t : Text). is_among t (names_of all order)) (replaced_names all) (is_true (list_all (λ (t : Text). is_among t (names_of all order)) (replaced_names all)) is.complete) text e;
+  complete = λ text e. replaced_ordered all order is text e;
 }
   where
     all_typed : (n k : ℕ) → get_or (replicate n worths.Typed) k worths.Typed ≡ worths.Typed
@@ -279,16 +175,11 @@ start all order is = record {
     all_typed (suc n) zero = refl
     all_typed (suc n) (suc k) = all_typed n k
 
-within : (all : List Item) (k : ℕ) (item : Item) → slice_get all k ≡ Some item → k < length all
-within [] k item e = absurd (cc)
-within (x ∷ xs) zero item e = omega arith
-within (x ∷ xs) (suc k) item e = let h : k < length xs = within xs k item e in omega arith
-
 -- the next of an order is an item
 pub next_within : (all : List Item) (list : List Worth) (front : List Text) (k : ℕ) (ks : List ℕ) → IsWorking all list front (k ∷ ks) → k < length list
 next_within all list front k ks w =
-    let n = next all front k (both_left (may_follow all front (slice_get all k)) (is_order_behind all (text_of (slice_get all k) ++ front) ks) w.behind) in
-    let h : k < length all = within all k n.0 n.2.at in
+    let n = next all front k (and_parts (may_follow all front (slice_get all k)) (is_order_behind all (text_of (slice_get all k) ++ front) ks) w.behind).0 in
+    let h : k < length all = slice_get_within all k n.0 n.2.at in
     let e : length list ≡ length all = w.one_each in
     omega arith
 
@@ -303,7 +194,7 @@ written_other all list k v text h = by (number_from 0 all text) h
     by None h = refl
     by (Some j) h = get_or-set_other list k j v worths.Typed (λ e. h (ap (λ (i : ℕ). Some i) e))
 
-decide : (o : Option ℕ) (k : ℕ) → (b : Bool) × (b ≡ true → o ≡ Some k) × (b ≡ false → o ≡ Some k → ⊥)
+pub decide : (o : Option ℕ) (k : ℕ) → (b : Bool) × (b ≡ true → o ≡ Some k) × (b ≡ false → o ≡ Some k → ⊥)
 decide None k = (false, λ e. absurd (true≢false (sym e)), λ e h. absurd (cc))
 decide (Some j) k = (nat_eq j k, (λ e. ap (λ (i : ℕ). Some i) (eqb-true j k e)), (λ e h. (let same : j ≡ k = cc in true≢false (sym (eq-eqb j k same) ∙ e))))
 
@@ -316,7 +207,7 @@ worked d list front k ks distinct w =
     let new = set list k v in
     let a = constants_by d.items list in
     let b = constants_by d.items new in
-    let n = next d.items front k (both_left (may_follow d.items front (slice_get d.items k)) (is_order_behind d.items (text_of (slice_get d.items k) ++ front) ks) w.behind) in
+    let n = next d.items front k (and_parts (may_follow d.items front (slice_get d.items k)) (is_order_behind d.items (text_of (slice_get d.items k) ++ front) ks) w.behind).0 in
     let item = n.0 in
     let name = n.1 in
     let lt : k < length list = next_within d.items list front k ks w in
@@ -328,13 +219,13 @@ worked d list front k ks distinct w =
     record {
       one_each = length-set list k v ∙ w.one_each;
       typed = λ j h. typed_still d.items list k j w.typed lt h;
-      behind = both_right (may_follow d.items front (slice_get d.items k)) (is_order_behind d.items (text_of (slice_get d.items k) ++ front) ks) w.behind;
+      behind = (and_parts (may_follow d.items front (slice_get d.items k)) (is_order_behind d.items (text_of (slice_get d.items k) ++ front) ks) w.behind).1;
       known = subst (λ (l : List Text). (text : Text) → is_among text (l ++ front) ≡ true → b text ≡ constant_whole b (item_named d.items text)) (sym n.2.texts)
           (λ text e. known_by name.text text b here (bytes_eq name.text text) refl (λ among. known_still d list front k ks w b same text among) e);
       closed = subst (λ (l : List Text). (text : Text) (user : Item) → is_among text (l ++ front) ≡ true → item_named d.items text ≡ Some user → list_all (is_before d.items (l ++ front)) (uses_of user) ≡ true) (sym n.2.texts)
           (λ text user e named. all_of_each (is_before d.items (name.text ∷ front)) (uses_of user) (λ used among. before_more d.items (name.text ∷ []) front used
           (closed_by name.text text item user found n.2.used (bytes_eq name.text text) refl (λ there. w.closed text user there named) e named used among)));
-      complete = λ text e. moved d.items front k ks text (w.complete text e);
+      complete = λ text e. among_moved text (text_of (slice_get d.items k)) front (names_of d.items ks) (w.complete text e);
     }
   where
     typed_still : (all : List Item) (list : List Worth) (k j : ℕ) → ((i : ℕ) → ¬ IsConstant (slice_get all i) → worth_at list (Some i) ≡ worths.Typed) → k < length list → ¬ IsConstant (slice_get all j)
@@ -365,9 +256,9 @@ worked d list front k ks distinct w =
             cases true is =
                 let number = found.1 is in
                 let item = item_of_number d.items text k number in
-                let n = next d.items front k (both_left (may_follow d.items front (slice_get d.items k)) (is_order_behind d.items (text_of (slice_get d.items k) ++ front) ks) w.behind) in
+                let n = next d.items front k (and_parts (may_follow d.items front (slice_get d.items k)) (is_order_behind d.items (text_of (slice_get d.items k) ++ front) ks) w.behind).0 in
                 let r : is_replaced (item_named d.items text) ≡ true = ap is_replaced (sym item ∙ n.2.at) ∙ ap has_name n.2.named in
-                w.known text (before_among d.items front text e r) ∙ ap (constant_whole (constants_by d.items list)) (sym item)
+                w.known text (before_front d.items front text e r) ∙ ap (constant_whole (constants_by d.items list)) (sym item)
                 ∙ sym (written_here d.items list k (constant_whole (constants_by d.items list) (slice_get d.items k)) text lt number)
 
     known_by : (name text : Text) (b : Constants) → b name ≡ constant_whole b (item_named d.items name) → (t : Bool) → bytes_eq name text ≡ t → (is_among text front ≡ true → b text ≡ constant_whole b (item_named d.items text))
@@ -400,19 +291,15 @@ finished all list front w = record {
   constants = λ text. by text (number_from 0 all text) refl;
 }
   where
-    or_none : (x : Bool) → (x || false) ≡ true → x ≡ true
-    or_none true h = refl
-    or_none false h = h
-
     by : (text : Text) (o : Option ℕ) → number_from 0 all text ≡ o → worth_at list o ≡ constant_whole (constants_by all list) (item_named all text)
-    by text None e = sym (ap (constant_whole (constants_by all list)) (unnumbered_item all text e))
+    by text None e = ap (constant_whole (constants_by all list)) (unnumbered_item all text (sym e))
     by text (Some k) e = case (is_replaced (item_named all text)) refl
       where
         case : (r : Bool) → is_replaced (item_named all text) ≡ r → worth_at list (Some k) ≡ constant_whole (constants_by all list) (item_named all text)
         case false r =
             let no = not_replaced (item_named all text) r in
             w.typed k (subst (λ (o : Option Item). ¬ IsConstant o) (sym (item_of_number all text k e)) no) ∙ sym (not_constant (constants_by all list) (item_named all text) no)
-        case true r = ap (worth_at list) (sym e) ∙ w.known text (or_none (is_among text front) (w.complete text (named_replaced all text r)))
+        case true r = ap (worth_at list) (sym e) ∙ w.known text (among_all text front (w.complete text r))
 
 -- The loop over an order.
 
@@ -422,47 +309,33 @@ Worked all list rest = (front : List Text) × IsWorking all list front rest
 pub worked_start : (d : Desc) (all : List Item) (order : List ℕ) → all ≡ d.items → IsOrder d.items order → Worked all (replicate (length all) worths.Typed) order
 worked_start d all order same is = ([], start all order (subst (λ (l : List Item). IsOrder l order) (sym same) is))
 
-first_left : (order : List ℕ) (i : ℕ) → i < length order → drop i order ≡ get_or order i 0 ∷ drop (i + 1) order
-first_left order i h = drop-cons order i 0 h ∙ ap (λ (n : ℕ). get_or order i 0 ∷ drop n order) (sym (add-one i))
-
 behind_within : (all : List Item) (order : List ℕ) (front : List Text) → is_order_behind all front order ≡ true → (i d : ℕ) → i < length order → get_or order i d < length all
 behind_within all [] front h i d l = absurd (omega arith)
 behind_within all (k ∷ ks) front h zero d l =
-    let n = next all front k (both_left (may_follow all front (slice_get all k)) (is_order_behind all (text_of (slice_get all k) ++ front) ks) h) in
-    within all k n.0 n.2.at
+    let n = next all front k (and_parts (may_follow all front (slice_get all k)) (is_order_behind all (text_of (slice_get all k) ++ front) ks) h).0 in
+    slice_get_within all k n.0 n.2.at
 behind_within all (k ∷ ks) front h (suc i) d l =
     let less : i < length ks = omega arith in
-    behind_within all ks (text_of (slice_get all k) ++ front) (both_right (may_follow all front (slice_get all k)) (is_order_behind all (text_of (slice_get all k) ++ front) ks) h) i d less
+    behind_within all ks (text_of (slice_get all k) ++ front) (and_parts (may_follow all front (slice_get all k)) (is_order_behind all (text_of (slice_get all k) ++ front) ks) h).1 i d less
 
 -- the numbers of an order are those of items
 pub order_within : (d : Desc) (all : List Item) (order : List ℕ) → all ≡ d.items → IsOrder d.items order → All (λ (k : ℕ). k < length all) order
-order_within d all order same is = subst (λ (l : List Item). All (λ (k : ℕ). k < length l) order) (sym same) (behind_within d.items order [] (is_true (is_order_behind d.items [] order) is.behind))
-
-read_at : (all : List Item) (k : ℕ) (x : Item) → k < length all → slice_get all k ≡ Some (get_or all k x)
-read_at [] k x l = absurd (omega arith)
-read_at (first ∷ all) zero x l = refl
-read_at (first ∷ all) (suc k) x l = let h : k < length all = omega arith in read_at all k x h
+order_within d all order same is = subst (λ (l : List Item). All (λ (k : ℕ). k < length l) order) (sym same) (behind_within d.items order [] is.behind)
 
 pub worked_step : (d : Desc) (all : List Item) (list : List Worth) (order : List ℕ) (i : ℕ) (x : Item) (v : Worth) → all ≡ d.items → duplicates d ≡ []
     → All (λ (k : ℕ). k < length all) order → Worked all list (drop i order) → i < length order → v ≡ constant_whole (constants_by all list) (Some (get_or all (get_or order i 0) x))
     → Worked all (set list (get_or order i 0) v) (drop (i + 1) order)
 worked_step d all list order i x v same distinct inside w h worth =
     let k = get_or order i 0 in
-    let at : slice_get all k ≡ Some (get_or all k x) = read_at all k x (inside i 0 h) in
+    let at : slice_get all k ≡ Some (get_or all k x) = slice_get-get_or all k x (inside i 0 h) in
     let working : IsWorking d.items list w.0 (k ∷ drop (i + 1) order) =
-    subst (λ (l : List Item). IsWorking l list w.0 (k ∷ drop (i + 1) order)) same (subst (IsWorking all list w.0) (first_left order i h) w.1) in
+    subst (λ (l : List Item). IsWorking l list w.0 (k ∷ drop (i + 1) order)) same (subst (IsWorking all list w.0) (drop_more order i 0 h) w.1) in
     let next = subst (λ (l : List Item). IsWorking l (set list k (constant_whole (constants_by l list) (slice_get l k))) (text_of (slice_get l k) ++ w.0) (drop (i + 1) order)) (sym same)
     (worked d list w.0 k (drop (i + 1) order) distinct working) in
     let value : constant_whole (constants_by all list) (slice_get all k) ≡ v = ap (constant_whole (constants_by all list)) at ∙ sym worth in (
       text_of (slice_get all k) ++ w.0,
       subst (λ (x : Worth). IsWorking all (set list k x) (text_of (slice_get all k) ++ w.0) (drop (i + 1) order)) value next,
     )
-
-nothing_left : (order : List ℕ) (i : ℕ) → (i < length order → ⊥) → drop i order ≡ []
-nothing_left [] zero h = refl
-nothing_left [] (suc i) h = refl
-nothing_left (k ∷ ks) zero h = absurd (h (omega arith))
-nothing_left (k ∷ ks) (suc i) h = nothing_left ks i (λ l. h (omega arith))
 
 pub worked_end : (d : Desc) (all : List Item) (list : List Worth) (order : List ℕ) (i : ℕ) → all ≡ d.items → Worked all list (drop i order) → (i < length order → ⊥) → AreWorths d.items list
 worked_end d all list order i same w h =

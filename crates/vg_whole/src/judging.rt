@@ -136,7 +136,7 @@ pub fn judged(e: &Expr, bindings: &Bindings, table: &Table, worths: &[Worth]) ->
 
 /// The first place in the arguments of a call.
 #[cycle(judged)]
-#[tactic(auto, using(crate::proofs::FirstLemmas::first_steps))]
+#[tactic(auto, using(vg_names::proofs::FirstLemmas::first_steps))]
 fn first_of_all(
     arguments: &[Expr],
     bindings: &Bindings,

@@ -1,4 +1,4 @@
-#![tactic(auto, using(crate::proofs::FirstLemmas::first_steps))]
+#![tactic(auto, using(vg_names::proofs::FirstLemmas::first_steps))]
 
 ghost use Rattle.std.specs.Prelude.{◌≡◌};
 ghost use Rattle.vg_names.specs.First.{first_of};

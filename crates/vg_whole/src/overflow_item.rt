@@ -1,4 +1,4 @@
-#![tactic(auto, using(crate::proofs::FirstLemmas::first_steps))]
+#![tactic(auto, using(vg_names::proofs::FirstLemmas::first_steps))]
 
 ghost use Rattle.std.specs.Prelude.{◌≡◌, [], ◌++◌, map, Some, slice_get};
 ghost use Rattle.vg_ast.specs.declared.field.Field.{Field};
@@ -95,7 +95,7 @@ fn parts(parts: &[Part], table: &Table, worths: &[Worth]) -> Option<usize>
 }
 
 /// The fields of a format.
-#[tactic(auto, using(crate::proofs::Numbers::numbered_fields, crate::proofs::Numbers::unnumbered_fields))]
+#[tactic(auto, using(vg_names::proofs::InnerLemmas::numbered_fields, vg_names::proofs::InnerLemmas::unnumbered_fields))]
 fn fields_of_format_named(format: &Name, table: &Table) -> Inner<'static>
     ensures { inner_names table.now.items.now result ≡ fields_of_format (item_named table.now.items.now format.now.text) }
 {

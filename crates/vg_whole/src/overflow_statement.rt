@@ -12,7 +12,7 @@ use vg_ast::{Goal, Statement};
 use vg_names::Table;
 
 /// The first operator of what a statement writes that leaves the whole numbers.
-#[tactic(auto, using(crate::proofs::FirstLemmas::first_steps))]
+#[tactic(auto, using(vg_names::proofs::FirstLemmas::first_steps))]
 fn goal(goal: &Goal, bindings: &Bindings, table: &Table, worths: &[Worth]) -> Option<usize>
     ensures { result ≡ first_of (goal_overflows (constants_by table.now.items.now worths.now) goal.now (inner_worths table.now.items.now bindings.now)) }
 {
@@ -90,7 +90,7 @@ pub fn statement(
 
 /// The first operator of the statements of a block.
 #[cycle(statement)]
-#[tactic(auto, using(crate::proofs::FirstLemmas::first_steps))]
+#[tactic(auto, using(vg_names::proofs::FirstLemmas::first_steps))]
 fn statements(
     body: &[Statement],
     bindings: &Bindings,

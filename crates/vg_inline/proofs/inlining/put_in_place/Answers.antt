@@ -1,6 +1,6 @@
 use Rattle.std.proofs.Common.{rules}
 use Rattle.vg_inline.proofs.BehaviourKnown.{are_behaviours}
-use Rattle.vg_inline.proofs.inlining.behaviours.Goals as goal
+use Rattle.vg_inline.proofs.inlining.put_in_place.Goals as goal
 
 pub returns : goal.returns
 returns c =
