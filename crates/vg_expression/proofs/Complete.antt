@@ -289,7 +289,7 @@ operator_level_some : (op : BinaryOperator) → nat_le 1 (operator_level op) ≡
 operator_level_some binaries.Or = refl
 operator_level_some _ = refl
 
-some_depth : (m : ℕ) → nat_le (1 + m) 0 ≡ true → ⊥
+pub some_depth : (m : ℕ) → nat_le (1 + m) 0 ≡ true → ⊥
 some_depth m h = grind (arith, nat_tests)
 
 no_depth : (c : Expr) → nat_le (depth c) 0 ≡ true → ⊥

@@ -143,7 +143,7 @@ counted : (more : MoreArguments) (ts : List Placed) → count more + length ts �
 counted no_more ts = omega arith
 counted (one_more comma e more) ts = omega (arith, counted more ts, longer e (spelled_more more ts))
 
-at_least_zero : (n : ℕ) → nat_le 0 n ≡ true
+pub at_least_zero : (n : ℕ) → nat_le 0 n ≡ true
 at_least_zero n = grind (arith, nat_tests)
 
 -- a part of any level
@@ -160,7 +160,7 @@ more_trees front first e more = append_assoc front (tree_of first ∷ []) (tree_
 max_zero : (a b : ℕ) → max a b ≡ max a (max b 0)
 max_zero a b = omega arith
 
-max_assoc : (a b c : ℕ) → max (max a b) c ≡ max a (max b c)
+pub max_assoc : (a b c : ℕ) → max (max a b) c ≡ max a (max b c)
 max_assoc a b c = omega arith
 
 arguments_is : (n : ℕ) (read : Reader) → IsComplete n read → (fuel : ℕ) (first : Expr) (more : MoreArguments) (front : List tree.Expr) (deepest closing : ℕ) (rest : List Placed)

@@ -1,11 +1,12 @@
 -- What is read is a tree of the grammar, and the tokens in front of what follows spell it.
-use Rattle.std.proofs.Common.{◌≡◌, ℕ, zero, suc, ◌+◌, max, Bool, true, false, ◌&&◌, cond, nat_eq, nat_le, List, [], ◌∷◌, ◌++◌, length, Option, Some, None, IfSome, refl, sym, ap, subst, ◌∙◌, arith, append_assoc}
+use Rattle.std.proofs.Common.{◌≡◌, ℕ, zero, suc, ◌+◌, max, true, ◌&&◌, nat_eq, nat_le, List, [], ◌∷◌, ◌++◌, length, Option, Some, None, IfSome, refl, sym, ap, subst, ◌∙◌, arith, append_assoc}
 use Rattle.vg_tok.specs.declared.token.Kind.{Kind}
 use Rattle.vg_tok.specs.declared.token.Kind.TheVariants as kind
 use Rattle.vg_tok.specs.declared.sign.Sign.{Sign}
 use Rattle.vg_tok.specs.declared.sign.Sign.TheVariants as signs
 use Rattle.vg_tok.specs.declared.word.Word.{Word}
 use Rattle.vg_tok.specs.declared.word.Word.TheVariants as words
+use Rattle.vg_tok.proofs.Lists.{chosen}
 use Rattle.vg_ast.specs.declared.name.Name.{Name}
 use Rattle.vg_ast.specs.declared.expr.Expr.{Expr}
 use Rattle.vg_ast.specs.declared.expr.Expr.TheVariants as trees
@@ -354,10 +355,6 @@ infix_read read sound least all left infixes.Cast k at ts e l h j =
     cast_read read sound least all left at ts (subst (λ (x : Kind). Stands least all (left, record { kind = x; at = at } ∷ ts)) (cast_token k e) l) h j
 infix_read read sound least all left infixes.Slice k at ts e l h j =
     slice_read read sound least all left at ts (subst (λ (x : Kind). Stands least all (left, record { kind = x; at = at } ∷ ts)) (slice_token k e) l) h j
-
-chosen : {A : Type 0} (b : Bool) (x y : A) (P : A → Type 0) → (b ≡ true → P x) → (b ≡ false → P y) → P (cond b x y)
-chosen true x y P f g = f refl
-chosen false x y P f g = g refl
 
 rest_read_by : (read : Reader) → IsSound read → (least : ℕ) (all : List Placed) (left : Operand) (t : Placed) (ts : List Placed) (go : Operand → List Placed → Option (Operand × List Placed))
     → ((found : Operand × List Placed) → Stands least all found → IfSome (go found.0 found.1) (Stands least all)) → Stands least all (left, t ∷ ts)

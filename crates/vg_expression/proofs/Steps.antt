@@ -95,7 +95,7 @@ split : {A B C : Type 0} (x : Option (A × B)) (f : B → Option (ℕ × B)) (k 
 split None f k = refl
 split (Some c) f k = sym (paired (f c.1) c.0 k)
 
-then_same : {A C : Type 0} (x : Option A) (f g : A → Option C) → ((a : A) → f a ≡ g a) → (x >>= f) ≡ (x >>= g)
+pub then_same : {A C : Type 0} (x : Option A) (f g : A → Option C) → ((a : A) → f a ≡ g a) → (x >>= f) ≡ (x >>= g)
 then_same None f g h = refl
 then_same (Some a) f g h = h a
 

@@ -1,10 +1,7 @@
 -- What tests of several things at once tell, and tests of numbers.
 use Rattle.std.proofs.Common.{◌≡◌, ℕ, suc, ◌+◌, max, Bool, true, false, not, ◌&&◌, ◌||◌, nat_eq, nat_le, nat_lt, refl, arith}
 use Rattle.std.proofs.lemmas.Bool.Decides.{nat_tests}
-
-pub both : (a b : Bool) → (a && b) ≡ true → (a ≡ true) × (b ≡ true)
-both true b h = (refl, h)
-both false b h = cc
+pub use Rattle.std.proofs.lemmas.Bool.{and_parts as both, and_from as both-from}
 
 pub three : (a b c : Bool) → (a && b && c) ≡ true → (a ≡ true) × (b ≡ true) × (c ≡ true)
 three true true c h = (refl, refl, h)
@@ -16,9 +13,6 @@ four true true true d h = (refl, refl, refl, h)
 four true true false d h = cc
 four true false c d h = cc
 four false b c d h = cc
-
-pub both-from : (a b : Bool) → a ≡ true → b ≡ true → (a && b) ≡ true
-both-from a b h k = rw (h, k) refl
 
 pub three-from : (a b c : Bool) → a ≡ true → b ≡ true → c ≡ true → (a && b && c) ≡ true
 three-from a b c h k l = rw (h, k, l) refl

@@ -9,7 +9,7 @@ use Rattle.vg_isa.specs.Typing.{is_isa, is_machine_width, is_format}
 use Rattle.vg_isa.proofs.Tests.{both, list_all-slice_get}
 
 -- a machine width is at most 64
-machine_width_most : (n : ℕ) → IsTrue (is_machine_width n) → n ≤ 64
+pub machine_width_most : (n : ℕ) → IsTrue (is_machine_width n) → n ≤ 64
 machine_width_most n h = grind (arith, nat_tests)
 
 -- a word is at most 64 bits wide

@@ -1,5 +1,5 @@
 -- The numbers of registers, as declared.
-use Rattle.std.proofs.Common.{◌≡◌, ℕ, zero, suc, ◌<◌, ◌^◌, Bool, true, false, ◌&&◌, List, [], ◌∷◌, length, map, replicate, IsTrue, nat_lt, nat_eq, slice_get, slice_set, Some, None, Option, is_none, arith, refl, sym, subst, ap, ◌∙◌, get_or}
+use Rattle.std.proofs.Common.{◌≡◌, ℕ, zero, suc, ◌<◌, ◌^◌, Bool, true, false, List, [], ◌∷◌, length, map, replicate, IsTrue, nat_lt, nat_eq, slice_get, slice_set, Some, None, Option, is_none, arith, refl, sym, subst, ap, ◌∙◌, get_or}
 use Rattle.std.specs.Option.{option_map_or}
 use Rattle.std.specs.List.{list_all}
 use Rattle.std.proofs.lemmas.Bool.Decides.{nat_tests}
@@ -8,11 +8,7 @@ use Rattle.vg_isa.specs.declared.declaration.RegDecl.{RegDecl}
 use Rattle.vg_isa.specs.Declaration.{register_count, register_width, has_register, is_file, is_single}
 use Rattle.vg_isa.proofs.Tests.{both, list_all-slice_get}
 use Rattle.vg_iss.specs.Kept.{is_file_of, are_numbers}
-
--- both tests hold
-pub conjunction : (a b : Bool) → a ≡ true → b ≡ true → (a && b) ≡ true
-conjunction true b h k = k
-conjunction false b h k = cc
+pub use Rattle.std.proofs.lemmas.Bool.{and_from as conjunction}
 
 pub nat_lt-true : (m n : ℕ) → m < n → nat_lt m n ≡ true
 nat_lt-true m n h = grind (arith, nat_tests)

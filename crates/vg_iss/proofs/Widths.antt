@@ -1,6 +1,5 @@
 -- Widths of addresses and indices.
 use Rattle.std.proofs.Common.{◌≡◌, ℕ, ◌<◌, ◌≤◌, ◌^◌, IsTrue, arith, subst, Some, Option}
-use Rattle.std.proofs.lemmas.Bool.Decides.{nat_tests}
 use Rattle.std.proofs.Math.Nat.{pow-le-pow_right}
 use Rattle.vg_bits.specs.BitValue.{BitValue}
 use Rattle.vg_isa.specs.declared.isa.Parts.{Parts}
@@ -10,9 +9,7 @@ use Rattle.vg_isa.specs.declared.ids.RegId.{RegId}
 use Rattle.vg_isa.specs.Typing.{is_isa, is_machine_width, is_made_of}
 use Rattle.vg_isa.proofs.Registers.{index_below}
 use Rattle.vg_isa.proofs.Tests.{both}
-
-machine_width_most : (n : ℕ) → IsTrue (is_machine_width n) → n ≤ 64
-machine_width_most n h = grind (arith, nat_tests)
+use Rattle.vg_isa.proofs.Fields.{machine_width_most}
 
 two_positive : 0 < 2
 two_positive = omega arith

@@ -6,13 +6,10 @@ use Rattle.vg_ast.specs.declared.item.Item.TheVariants as items
 use Rattle.vg_ast.specs.Placed.{Placed}
 use Rattle.vg_expression.specs.Lexeme.{◌>>=◌, sign_at, name_at}
 use Rattle.vg_expression.specs.Reading.{type_expr}
+use Rattle.vg_expression.proofs.Steps.{then_same}
 use Rattle.vg_item.specs.ReadingRow.{row_at}
 use Rattle.vg_item.specs.ReadingItem.{field_at, format_at}
 use Rattle.vg_item.specs.ReadingBehind.{fields_at, fields_behind}
-
-then_same : {A C : Type 0} (x : Option A) (f g : A → Option C) → ((a : A) → f a ≡ g a) → (x >>= f) ≡ (x >>= g)
-then_same None f g h = refl
-then_same (Some a) f g h = h a
 
 regrouped : {A B C : Type 0} (x : Option A) (f : A → Option B) (g : B → Option C) → (x >>= λ a. f a >>= g) ≡ ((x >>= f) >>= g)
 regrouped None f g = refl

@@ -20,7 +20,8 @@ use Rattle.vg_expression.specs.Lexeme.{begins_with, begins_with_word, sign_at, w
 use Rattle.vg_expression.specs.Exact.{ends}
 use Rattle.vg_expression.proofs.Tests.{both, three, four, both-from, le_trans, one_part, two_parts, room}
 use Rattle.vg_expression.proofs.Following.{ends_at_sign, ends_at_word, ends_at_greater, ends_at_statement}
-use Rattle.vg_expression.proofs.Primary.{longer}
+use Rattle.vg_expression.proofs.Primary.{longer, max_assoc}
+use Rattle.vg_expression.proofs.Complete.{some_depth}
 use Rattle.vg_item.specs.declared.sized.SizedStatement.{SizedStatement}
 use Rattle.vg_item.specs.declared.sized.SizedGoal.{SizedGoal}
 use Rattle.vg_item.specs.ReadingRow.{Reader}
@@ -163,9 +164,6 @@ max_nothing a = omega arith
 max_zero : (a : ℕ) → max 0 a ≡ a
 max_zero a = omega arith
 
-max_assoc : (a b c : ℕ) → max (max a b) c ≡ max a (max b c)
-max_assoc a b c = omega arith
-
 never : (a b : Bool) → not a ≡ true → a ≡ true → b ≡ false
 never true b h k = cc
 never false b h k = cc
@@ -273,9 +271,6 @@ module _ (n : ℕ) (small : nat_lt n 64 ≡ true) (read : Reader SizedStatement)
       ∙ assign_is goal colon_equal value rest p.0 p.1 (at_most (depth_goal goal) q.0) (at_most (depth value) q.1) e
 
 -- No statement has depth 0.
-
-some_depth : (m : ℕ) → nat_le (1 + m) 0 ≡ true → ⊥
-some_depth m h = grind (arith, nat_tests)
 
 no_depth_goal : (c : Goal) → nat_le (depth_goal c) 0 ≡ true → ⊥
 no_depth_goal (whole n) h = cc

@@ -1,6 +1,5 @@
 -- Steps of reading that succeed, and how many tokens trees spell.
-use Rattle.std.proofs.Common.{◌≡◌, ℕ, zero, suc, ◌+◌, ◌<◌, ◌≤◌, Bool, true, false, cond, nat_le, List, [], ◌∷◌, ◌++◌, length, map, Option, Some, None, refl, ap, ◌∙◌, arith, append_assoc}
-use Rattle.std.proofs.lemmas.Bool.Decides.{nat_tests}
+use Rattle.std.proofs.Common.{◌≡◌, ℕ, zero, suc, ◌+◌, ◌<◌, ◌≤◌, Bool, true, false, nat_le, List, [], ◌∷◌, ◌++◌, length, map, Option, Some, None, refl, ap, ◌∙◌, arith, append_assoc}
 use Rattle.std.specs.Prelude.{⊤}
 use Rattle.std.specs.List.{list_all}
 use Rattle.vg_tok.specs.declared.sign.Sign.{Sign}
@@ -24,20 +23,10 @@ use Rattle.vg_expression.specs.Lexeme.{◌>>=◌, begins_with, sign_at}
 use Rattle.vg_expression.specs.Reading.{expression, type_expr}
 use Rattle.vg_expression.specs.Exact.{ends}
 use Rattle.vg_expression.proofs.Tests.{both, three-from}
-use Rattle.vg_expression.proofs.Primary.{longer}
+use Rattle.vg_expression.proofs.Primary.{longer, at_least_zero}
 use Rattle.vg_expression.proofs.Complete.{expression_complete, type_complete}
 use Rattle.vg_item.specs.ReadingRow.{Reader, row_from, row_at, optional_row_at}
-
-pub then_is : {A B : Type 0} (o : Option A) (f : A → Option B) (a : A) (y : Option B) → o ≡ Some a → f a ≡ y → (o >>= f) ≡ y
-then_is o f a y e h = ap (λ x. x >>= f) e ∙ h
-
-pub if_true : {A : Type 0} (b : Bool) (x y z : A) → b ≡ true → x ≡ z → cond b x y ≡ z
-if_true true x y z h e = e
-if_true false x y z h e = cc
-
-pub if_false : {A : Type 0} (b : Bool) (x y z : A) → b ≡ false → y ≡ z → cond b x y ≡ z
-if_false false x y z h e = e
-if_false true x y z h e = cc
+pub use Rattle.vg_expression.proofs.Taking.{then_is, if_true, if_false}
 
 -- An expression that is read, and what follows it.
 
@@ -51,9 +40,6 @@ expression_then f least c rest y h l e k =
     then_is (expression least (spelled c rest)) f (operand_of c, rest) y (expression_complete least c rest (three-from _ _ _ p.0 l p.1) e) k
 
 -- an expression of any level
-
-at_least_zero : (n : ℕ) → nat_le 0 n ≡ true
-at_least_zero n = grind (arith, nat_tests)
 
 pub expression_is : (c : Expr) (rest : List Placed) → is_expression c ≡ true → ends 0 rest ≡ true → expression 0 (spelled c rest) ≡ Some (operand_of c, rest)
 expression_is c rest h e =

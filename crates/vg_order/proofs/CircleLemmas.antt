@@ -2,7 +2,7 @@
 use Rattle.std.proofs.Common.{◌≡◌, ◌≢◌, ℕ, zero, suc, ◌+◌, ◌<◌, ◌⊎◌, inl, inr, Bool, true, false, not, List, [], ◌∷◌, ◌++◌, length, get_or, take, set, replicate, refl, sym, ap, subst, ◌∙◌, arith, true≢false, length-set, get_or-set_other, get_or-set_same}
 use Rattle.std.specs.List.{All, Contains, count_by}
 use Rattle.std.proofs.lemmas.Bool.{cases_eq}
-use Rattle.std.proofs.lemmas.List.{length_push, length-replicate, take_more, get_or_read}
+use Rattle.std.proofs.lemmas.List.{length_push, length-replicate, take_more}
 use Rattle.std.proofs.lemmas.List.Elements.{All-weaker, All-nil, All-push, All-contains, Contains-append_left, Contains-get_or, Contains-push, Contains-push_cases}
 use Rattle.vg_order.specs.Graph.{uses_at, IsClosed, Leads, directly, through}
 use Rattle.vg_order.specs.Search.{IsPassed, seen_at}
@@ -136,9 +136,6 @@ module _ (sought : ℕ) (uses : List ℕ) (old : List Bool) (before : List ℕ) 
 
   pub turn_seen : seen_at seen (get_or uses i 0) ≡ true → new ≡ seen → after ≡ work → IsMeeting sought (take (i + 1) uses) uses old new before after
   turn_seen e a b = rw (front, a, b) (meeting_seen sought (take i uses) uses old seen before work h (get_or uses i 0) other e)
-
-pub uses_read : (graph : List (List ℕ)) (current : ℕ) (read slice : List ℕ) → slice ≡ read → read ≡ get_or graph current read → current < length graph → slice ≡ uses_at graph current
-uses_read graph current read slice a b lt = a ∙ get_or_read graph current read lt b []
 
 module _ (graph : List (List ℕ)) (node : ℕ) (seen : List Bool) (work rest : List ℕ) (current : ℕ) (h : IsWalk graph node seen work) (popped : work ≡ rest ++ current ∷ []) where
   turned : IsWalk graph node seen (rest ++ current ∷ [])

@@ -1,5 +1,5 @@
 -- A part that is open: its heading and what stands in its braces so far.
-use Rattle.std.proofs.Common.{◌≡◌, ℕ, Bool, true, false, ◌&&◌, IsTrue, List, [], ◌∷◌, ◌++◌, map, Option, Some, IfSome, refl, sym, ap, subst, ◌∙◌, append_assoc}
+use Rattle.std.proofs.Common.{◌≡◌, ℕ, Bool, true, ◌&&◌, IsTrue, List, [], ◌∷◌, ◌++◌, map, Option, Some, IfSome, refl, sym, ap, subst, ◌∙◌, append_assoc}
 use Rattle.std.specs.List.{list_all}
 use Rattle.std.proofs.lemmas.List.{map-append}
 use Rattle.std.proofs.lemmas.List.Folds.{list_all-append}
@@ -10,6 +10,7 @@ use Rattle.vg_item.specs.declared.heading.Heading.{Heading}
 use Rattle.vg_item.specs.Reading.{closing_piece}
 use Rattle.vg_item.specs.Exact.{IsExact, ItemIsExact, RoleIsExact, MicroItemIsExact, IsaHeadingIsExact, AbiHeadingIsExact, MicroHeadingIsExact, ClosingIsExact}
 use Rattle.vg_parse.proofs.Pieces.{each, closed, section_pieces}
+pub use Rattle.std.proofs.lemmas.Bool.{and_parts as split_true}
 
 -- the readers of pieces read exactly what the grammar has
 pub record AreExact : Type 0 where
@@ -51,10 +52,6 @@ open_begin spells_heading spells heading_of is_right tree_of before read exact p
 
 pub both_true : (a b : Bool) → IsTrue a → IsTrue b → IsTrue (a && b)
 both_true a b h k = rw (h, k) refl
-
-pub split_true : (a b : Bool) → IsTrue (a && b) → IsTrue a × IsTrue b
-split_true true b h = (refl, h)
-split_true false b h = absurd (cc)
 
 pub open_more : {H X T : Type 0} {spells_heading : Spells H} {spells : Spells X} {heading_of : H → Heading} {is_right : X → Bool} {tree_of : X → T} {heading : Heading} {trees : List T} {before pieces : List (List Placed)}
     {read : List Placed → Option T} → IsExact read spells is_right tree_of → (piece : List Placed) (x : T) → read piece ≡ Some x

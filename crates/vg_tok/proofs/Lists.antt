@@ -1,30 +1,16 @@
 -- Lists cut in two.
-use Rattle.std.proofs.Common.{◌≡◌, ◌⊎◌, ℕ, Bool, true, false, cond, ◌&&◌, ◌||◌, List, [], ◌∷◌, ◌++◌, length, refl, sym, ap, ◌∙◌, inl, inr, arith}
+use Rattle.std.proofs.Common.{◌≡◌, ◌⊎◌, ℕ, Bool, true, false, cond, List, [], ◌∷◌, ◌++◌, length, refl, sym, ap, ◌∙◌, inl, inr, arith}
 use Rattle.std.specs.List.{list_all, prefix_len}
 use Rattle.vg_tok.specs.Lexing.{begins_with}
+pub use Rattle.std.proofs.lemmas.Bool.{and_parts as both, and_from as both-from, or_parts as neither, false_from_ne_true as is_false}
 
 pub false≢true : {A : Type 0} → false ≡ true → A
 false≢true h = absurd (cc)
-
-pub both : (a b : Bool) → (a && b) ≡ true → (a ≡ true) × (b ≡ true)
-both true b h = (refl, h)
-both false b h = absurd (cc)
-
-pub both-from : (a b : Bool) → a ≡ true → b ≡ true → (a && b) ≡ true
-both-from a b h k = rw (h, k) refl
-
-pub neither : (a b : Bool) → (a || b) ≡ false → (a ≡ false) × (b ≡ false)
-neither true b h = absurd (cc)
-neither false b h = (refl, h)
 
 -- the choice of an `if`
 pub chosen : {A : Type 0} (b : Bool) (x y : A) (P : A → Type 0) → (b ≡ true → P x) → (b ≡ false → P y) → P (cond b x y)
 chosen true x y P f g = f refl
 chosen false x y P f g = g refl
-
-pub is_false : (b : Bool) → (b ≡ true → ⊥) → b ≡ false
-is_false true h = absurd (h refl)
-is_false false h = refl
 
 pub head : {A : Type 0} (a b : A) (c d : List A) → a ∷ c ≡ b ∷ d → a ≡ b
 head a b c d h = cc

@@ -21,10 +21,7 @@ use Rattle.vg_tok.proofs.Characters.{Letter, Digit, Quote, Other, class, class-q
 use Rattle.vg_tok.proofs.Spelled.{class_of, spells-first, one_class, spells-letter, sign-text}
 use Rattle.vg_tok.proofs.Elements.{has_close-tail}
 use Rattle.vg_tok.proofs.Digits.{eqb-same, NumberAt, number_here, number_span, number_most}
-
-and_false : (b : Bool) → (b && false) ≡ false
-and_false true = refl
-and_false false = refl
+use Rattle.vg_tok.proofs.Steps.{and_false}
 
 or_false : (a b : Bool) → a ≡ false → b ≡ false → (a || b) ≡ false
 or_false a b h k = rw (h, k) refl

@@ -8,7 +8,7 @@ use Rattle.std.specs.Char.{is_digit, digit_value, len_utf8}
 use Rattle.vg_tok.specs.Lexing.{same_text, value_from, byte_len, has_close}
 use Rattle.vg_tok.specs.Front.{close_from, digits_from}
 
-and_false : (b : Bool) → (b && false) ≡ false
+pub and_false : (b : Bool) → (b && false) ≡ false
 and_false true = refl
 and_false false = refl
 

@@ -3,11 +3,13 @@ use Rattle.std.proofs.Common.{◌≡◌, ℕ, zero, suc, ◌+◌, ◌^◌, ◌<�
 use Rattle.std.specs.List.{list_all, range_with_len}
 use Rattle.std.specs.Option.{option_map_or}
 use Rattle.std.proofs.lemmas.Bool.Decides.{nat_tests}
+use Rattle.std.proofs.lemmas.Bool.{and_parts as both}
 use Rattle.vg_isa.specs.declared.isa.Parts.{Parts}
 use Rattle.vg_isa.specs.declared.declaration.RegDecl.{RegDecl}
 use Rattle.vg_isa.specs.Declaration.{register_count}
 use Rattle.vg_image.specs.State.{State}
 use Rattle.vg_iss.specs.Kept.{is_file_of, are_numbers}
+use Rattle.vg_iss.proofs.Files.{length-file}
 use Rattle.vg_top.specs.Report.{declaration_lines, register_lines, value_line, register_name}
 use Rattle.vg_top.specs.RegisterLines.{number_line, file_lines, all_file_lines}
 
@@ -40,10 +42,6 @@ file_at [] files r e d h k = absurd (omega arith)
 file_at (decl ∷ regs) [] r e d h k = absurd (omega arith)
 file_at (decl ∷ regs) (numbers ∷ files) zero e d h k = refl
 file_at (decl ∷ regs) (numbers ∷ files) (suc r) e d h k = file_at regs files r e d (omega arith) (omega arith)
-
-both : (a b : Bool) → IsTrue (a && b) → IsTrue a × IsTrue b
-both true b h = (refl, h)
-both false b h = cc
 
 -- there are numbers for each declaration
 pub as_many : (regs : List RegDecl) (files : List (List ℕ)) → IsTrue (are_numbers regs files) → length regs ≡ length files
@@ -113,9 +111,6 @@ at_declaration d s r decl numbers here there many =
 same_number : (a b : ℕ) → IsTrue (nat_eq a b) → a ≡ b
 same_number a b h = grind (arith, nat_tests)
 
-count_is : (decl : RegDecl) (numbers : List ℕ) → IsTrue (is_file_of decl numbers) → length numbers ≡ register_count decl
-count_is decl numbers h = same_number _ _ (both _ _ h).0
-
 lines_from : (d : Parts) (s : State) (regs : List RegDecl) (files : List (List ℕ)) (r : ℕ) → drop r d.regs ≡ regs → drop r s.registers ≡ files → IsTrue (are_numbers regs files)
     → register_lines d s r regs ≡ all_file_lines regs files
 unfolding register_lines all_file_lines
@@ -125,7 +120,7 @@ lines_from d s (decl ∷ regs) [] r here there all = cc
 lines_from d s (decl ∷ regs) (numbers ∷ files) r here there all =
     let e = at_drop d.regs r decl regs here in
     let f = at_drop s.registers r numbers files there in
-    let own : declaration_lines d s r decl ≡ file_lines decl numbers = at_declaration d s r decl numbers e.0 f.0 (count_is decl numbers (both _ _ all).0) in
+    let own : declaration_lines d s r decl ≡ file_lines decl numbers = at_declaration d s r decl numbers e.0 f.0 (length-file decl numbers (both _ _ all).0) in
     let behind : register_lines d s (r + 1) regs ≡ all_file_lines regs files = lines_from d s regs files (r + 1) (rw add-one e.1) (rw add-one f.1) (both _ _ all).1 in
     ap (λ (l : List ℕ). l ++ register_lines d s (r + 1) regs) own ∙ ap (λ (l : List ℕ). file_lines decl numbers ++ l) behind
 

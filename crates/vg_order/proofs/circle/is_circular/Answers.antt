@@ -2,8 +2,9 @@ use Rattle.std.proofs.Common.{◌≡◌, ◌<◌, [], length, ap, sym, subst, �
 use Rattle.std.proofs.lemmas.Grind.{common_steps}
 use Rattle.vg_order.specs.Graph.{uses_at}
 use Rattle.vg_order.proofs.Counts.{written_back}
-use Rattle.vg_order.proofs.CircleLemmas.{IsWalk, uses_read, walk_within, walk_back, walk_turn, walk_done, meet_bound}
+use Rattle.vg_order.proofs.CircleLemmas.{IsWalk, walk_within, walk_back, walk_turn, walk_done, meet_bound}
 use Rattle.vg_order.proofs.circle.is_circular.Goals as goal
+use Rattle.vg_order.proofs.SearchLemmas.{read_uses}
 
 pub offset_bounds-graph-current : goal.offset_bounds-graph-current
 offset_bounds-graph-current c =
@@ -16,20 +17,20 @@ bounds-graph-current c = walk_within _ _ _ _ _ _ c.loop-current.invariant c.in-S
 pub meet-requires : goal.meet-requires
 meet-requires c =
     let lt = walk_within _ _ _ _ _ _ c.loop-current.invariant c.in-Some.ensures.items in
-    let same = uses_read c.args.graph.now c.in-Some.current c.index-graph-current.result c.as_slice.result.now c.as_slice.ensures c.index-graph-current.is lt in
+    let same = read_uses c.args.graph.now c.in-Some.current c.index-graph-current.result c.as_slice.result.now c.as_slice.ensures c.index-graph-current.is lt in
     meet_bound (uses_at c.args.graph.now c.in-Some.current) c.as_slice.result.now (length c.args.graph.now) (length c.deref_mut.result.now) same (c.requires.closed c.in-Some.current [] lt)
     (ap length c.deref_mut.ensures.value ∙ c.loop-current.invariant.marked)
 
 pub returns-then-branch-clause-yes : goal.returns-then-branch-clause-yes
 returns-then-branch-clause-yes c = λ _.
     let lt = walk_within _ _ _ _ _ _ c.loop-current.invariant c.in-Some.ensures.items in
-    let same = uses_read c.args.graph.now c.in-Some.current c.index-graph-current.result c.as_slice.result.now c.as_slice.ensures c.index-graph-current.is lt in
+    let same = read_uses c.args.graph.now c.in-Some.current c.index-graph-current.result c.as_slice.result.now c.as_slice.ensures c.index-graph-current.is lt in
     walk_back _ _ _ _ _ _ c.loop-current.invariant c.in-Some.ensures.items c.as_slice.result.now same (c.in_ok-meet.ensures.found c.if-branch.true)
 
 pub loop-current-preserved : goal.loop-current-preserved
 loop-current-preserved c =
     let lt = walk_within _ _ _ _ _ _ c.loop-current.invariant c.in-Some.ensures.items in
-    let same = uses_read c.args.graph.now c.in-Some.current c.index-graph-current.result c.as_slice.result.now c.as_slice.ensures c.index-graph-current.is lt in
+    let same = read_uses c.args.graph.now c.in-Some.current c.index-graph-current.result c.as_slice.result.now c.as_slice.ensures c.index-graph-current.is lt in
     let kept : length c.meet.new.seen ≡ length c.deref_mut.result.now = search rules in
     let room : c.loop-current.seen.len ≡ length c.loop-current.seen.items = omega (arith, c.loop-current.seen.ok.0) in
     let no = c.if-branch.false in
