@@ -1,19 +1,13 @@
 #!/usr/bin/env python3
-"""Makes the rows of crates/vg_rows that are called `form N`, and their answers. Each is a description of the form that is
-built, or one with a single thing that isn't of the form, in which numbers, types and behaviours are hidden behind constants,
-aliases, functions and `let`. The answer is known from what was hidden. With --check it changes nothing, and fails where the
-rows or the answers aren't as it would make them. With a seed and a number it prints other rows, and then their answers."""
-import os
+"""Makes the cases called `form N`, in crates/vg_cases/data/forms.cases. Each is a description of the form that is built, or
+one with a single thing that isn't of the form, in which numbers, types and behaviours are hidden behind constants, aliases,
+functions and `let`. The answer is known from what was hidden. With --check it changes nothing, and fails where the table
+isn't as it would make it. With a seed and a number it prints other cases."""
 import random
-import re
 import sys
 
-HERE = os.path.dirname(os.path.abspath(__file__))
-CRATE = os.path.join(HERE, "..", "crates", "vg_rows")
-ROWS, ANSWERS = os.path.join(CRATE, "data", "rows.txt"), os.path.join(CRATE, "stdout")
-SEPARATOR = "########\n"
-# What the program prints behind its rows.
-BEHIND = "pieces of 16"
+from cases import case, keep
+
 FIELDS = [("f7", 31, 25), ("rs2", 24, 20), ("rs1", 19, 15), ("f3", 14, 12), ("rd", 11, 7), ("op", 6, 0)]
 # Few names, among them those of fields, so that inner names hide fields and one another.
 INNER = ["a", "b", "c", "d", "rs1", "rs2", "rd", "f3"]
@@ -211,32 +205,14 @@ def description(draw):
 
 def made(seed, number):
     draw = random.Random(seed)
-    rows, answers = [], []
+    cases = []
     for k in range(1, number + 1):
         text, answer = description(draw)
-        rows.append("form %d\n====\ncheck d.vadl\n====\n%s====\n" % (k, text))
-        answers.append("form %d: %d\n%s\n" % (k, not answer.startswith("ok"), answer))
-    return rows, "".join(answers)
+        cases.append(case("form %d" % k, "check d.vadl", [("d.vadl", text)], answer))
+    return cases
 
 
-def main():
-    if len(sys.argv) == 3:
-        rows, answers = made(*map(int, sys.argv[1:]))
-        print(SEPARATOR.join(rows) + SEPARATOR + answers, end="")
-        return
-    rows, answers = made(1, 100)
-    with open(ROWS, encoding="utf-8") as file:
-        old_rows = file.read()
-    with open(ANSWERS, encoding="utf-8") as file:
-        old_answers = file.read()
-    kept = [row for row in old_rows.split(SEPARATOR) if not row.startswith("form ")]
-    front, first, behind = re.sub(r"(?m)^form \d+: .*\n.*\n", "", old_answers).partition(BEHIND)
-    texts = {ROWS: (old_rows, SEPARATOR.join(kept + rows)), ANSWERS: (old_answers, front + answers + first + behind)}
-    if sys.argv[1:] == ["--check"]:
-        sys.exit(any(old != new for old, new in texts.values()))
-    for name, (_, new) in texts.items():
-        with open(name, "w", encoding="utf-8") as file:
-            file.write(new)
-
-
-main()
+if len(sys.argv) == 3:
+    print("".join(made(*map(int, sys.argv[1:]))), end="")
+else:
+    keep("forms.cases", made(1, 100))

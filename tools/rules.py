@@ -1,14 +1,19 @@
 #!/usr/bin/env python3
-"""Makes the table of texts of crates/vg_rules, and the answers that they are held to, by the reader in names.py. With
---check it changes nothing, and fails where a file isn't as it would make it."""
+"""Makes crates/vg_cases/data/rules.cases: descriptions, and the first rule of names, constants and sizes that each breaks, by
+the reader in names.py. Of one that breaks none this reader doesn't know whether it is built: such an answer is kept as the
+table has it, and must be `ok` with the name and the number of instructions, or `not built`. With --check it changes nothing,
+and fails where the table isn't as it would make it."""
 import os
+import re
 import sys
 
 sys.setrecursionlimit(1000000)
+from cases import answers, case, keep
 from names import told
 
 HERE = os.path.dirname(os.path.abspath(__file__))
-CRATE = os.path.join(HERE, "..", "crates", "vg_rules")
+NUMBERS = {"Syntax": 1, "Duplicate": 2, "Unknown": 3, "Cyclic": 4, "Overflow": 5, "Limit": 18}
+OLD = answers("rules.cases")
 rows = []
 
 
@@ -504,14 +509,18 @@ row("RISC-V RV32IM", RV32IM)
 
 if len({title for title, text in rows}) != len(rows):
     sys.exit("rules.py: a title stands twice")
-FILES = {
-    "data/texts.txt": "########\n".join("%s\n====\n%s" % r for r in rows),
-    "stdout": "".join("%s\n%s\n" % (title, told(text)) for title, text in rows),
-}
-for name, made in FILES.items():
-    path = os.path.join(CRATE, name)
-    if "--check" in sys.argv:
-        if open(path, encoding="utf-8", newline="").read() != made:
-            sys.exit("rules.py: %s isn't as it is made" % name)
-    else:
-        open(path, "w", encoding="utf-8", newline="").write(made)
+
+
+def answer(title, text):
+    """The line that `check` writes."""
+    rule = told(text)
+    if rule != "accepted":
+        name, place = rule.split(" ", 1)
+        return "refused: description %d %s %s" % (NUMBERS[name], name, place)
+    old = OLD.get(title, "refused: not built")
+    if not re.fullmatch(r"ok \w+ \d+|refused: not built at \d+:\d+", old):
+        sys.exit("rules.py: no answer is known to " + title)
+    return old
+
+
+keep("rules.cases", [case(title, "check d.vadl", [("d.vadl", text)], answer(title, text)) for title, text in rows])
