@@ -1,8 +1,9 @@
 use crate::{Expr, Name};
+use sqlite_items::Boxed;
 
 /// A field that an encoding fixes, with its value.
 #[derive(Drop)]
 pub struct Fix {
     pub name: Name,
-    pub value: Expr,
+    pub value: Boxed<Expr>,
 }

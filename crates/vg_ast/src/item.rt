@@ -1,5 +1,5 @@
 use crate::{Expr, Field, Fix, Name, Parameter, Part, Statement, TypeExpr};
-use sqlite_items::Items;
+use sqlite_items::{Boxed, Items};
 
 /// An item of the instruction set part. `at` is the place of its first token.
 #[derive(Drop)]
@@ -7,55 +7,55 @@ pub enum Item {
     Constant {
         at: usize,
         name: Name,
-        value: Expr,
+        value: Boxed<Expr>,
     },
     Using {
         at: usize,
         name: Name,
-        meaning: TypeExpr<Expr>,
+        meaning: TypeExpr<Boxed<Expr>>,
     },
     Function {
         at: usize,
         name: Name,
         parameters: Items<Parameter>,
-        result: TypeExpr<Expr>,
-        body: Expr,
+        result: TypeExpr<Boxed<Expr>>,
+        body: Boxed<Expr>,
     },
     ProgramCounter {
         at: usize,
         name: Name,
-        declared: TypeExpr<Expr>,
+        declared: TypeExpr<Boxed<Expr>>,
     },
     Memory {
         at: usize,
         name: Name,
-        address: TypeExpr<Expr>,
-        cell: TypeExpr<Expr>,
+        address: TypeExpr<Boxed<Expr>>,
+        cell: TypeExpr<Boxed<Expr>>,
     },
     Register {
         at: usize,
         name: Name,
-        declared: TypeExpr<Expr>,
+        declared: TypeExpr<Boxed<Expr>>,
     },
     RegisterFile {
         at: usize,
         name: Name,
-        index: TypeExpr<Expr>,
-        declared: TypeExpr<Expr>,
+        index: TypeExpr<Boxed<Expr>>,
+        declared: TypeExpr<Boxed<Expr>>,
         /// The index of the register that is always 0.
-        zero: Option<Expr>,
+        zero: Option<Boxed<Expr>>,
     },
     Format {
         at: usize,
         name: Name,
-        declared: TypeExpr<Expr>,
+        declared: TypeExpr<Boxed<Expr>>,
         fields: Items<Field>,
     },
     Instruction {
         at: usize,
         name: Name,
         format: Name,
-        behaviour: Statement,
+        behaviour: Boxed<Statement>,
     },
     Encoding {
         at: usize,

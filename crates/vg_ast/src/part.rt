@@ -1,4 +1,5 @@
 use crate::{Expr, Name};
+use sqlite_items::Boxed;
 use vg_tok::Chars;
 
 /// How a field is written in a line of assembly.
@@ -36,6 +37,6 @@ pub enum Part {
     Target {
         at: usize,
         field: Name,
-        shift: Expr,
+        shift: Boxed<Expr>,
     },
 }

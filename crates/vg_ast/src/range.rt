@@ -1,8 +1,9 @@
 use crate::Expr;
+use sqlite_items::Boxed;
 
 /// A range of bits, the high bit first. A single bit has no low one.
 #[derive(Drop)]
 pub struct Range {
-    pub high: Expr,
-    pub low: Option<Expr>,
+    pub high: Boxed<Expr>,
+    pub low: Option<Boxed<Expr>>,
 }

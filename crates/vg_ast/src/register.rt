@@ -1,8 +1,9 @@
 use crate::{Expr, Name};
+use sqlite_items::Boxed;
 
 /// A register of a register file, as a role of the ABI names it.
 #[derive(Drop)]
 pub struct Register {
     pub file: Name,
-    pub index: Expr,
+    pub index: Boxed<Expr>,
 }

@@ -1,5 +1,5 @@
 use crate::{Expr, Register};
-use sqlite_items::Items;
+use sqlite_items::{Boxed, Items};
 
 /// A role of the application binary interface. `at` is the place of its first token.
 #[derive(Drop)]
@@ -31,17 +31,17 @@ pub enum Role {
     /// Where code begins.
     Code {
         at: usize,
-        base: Expr,
+        base: Boxed<Expr>,
     },
     /// Where data begins.
     Data {
         at: usize,
-        base: Expr,
+        base: Boxed<Expr>,
     },
     /// The two ends of the stack.
     Stack {
         at: usize,
-        low: Expr,
-        high: Expr,
+        low: Boxed<Expr>,
+        high: Boxed<Expr>,
     },
 }

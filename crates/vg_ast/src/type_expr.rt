@@ -8,7 +8,7 @@ pub enum BitsKind {
     SInt,
 }
 
-/// A type as it is written. `E` is the expression of its width, boxed inside of expressions.
+/// A type as it is written. `E` is the expression of its width, which is boxed in all trees.
 #[derive(Drop)]
 pub enum TypeExpr<E> {
     /// `Bits<width>`, `UInt<width>` or `SInt<width>`.

@@ -11,6 +11,7 @@ use crate::declaration::Declaration;
 use crate::doing::Doing;
 use crate::fault::FormFault;
 use crate::naming::is_named;
+use sqlite_items::Boxed;
 use vg_ast::{BitsKind, Expr, Field, Item, Range, TypeExpr};
 use vg_inline::{Context, Declared, declared_type, worth_of};
 use vg_whole::Worth;
@@ -56,7 +57,7 @@ pub(crate) fn is_bits(width: u128, declared: Declared) -> bool
 }
 
 /// Whether a type is `Bits<width>`.
-fn is_word(width: u128, declared: &TypeExpr<Expr>, context: &Context) -> bool
+fn is_word(width: u128, declared: &TypeExpr<Boxed<Expr>>, context: &Context) -> bool
     ensures { result ≡ is_word (values_in context.now) width declared.now }
 {
     is_bits(width, declared_type(declared, context))
@@ -90,12 +91,12 @@ fn is_memory(item: &Item, context: &Context) -> bool
 }
 
 /// Whether an expression that may be left out stands there, and is this number.
-fn is_there(number: u128, e: &Option<Expr>, context: &Context) -> bool
+fn is_there(number: u128, e: &Option<Boxed<Expr>>, context: &Context) -> bool
     ensures { result ≡ is_low (values_in context.now) number e.now }
 {
     match e {
         None => false,
-        Some(e) => is_whole(number, worth_of(e, context)),
+        Some(e) => is_whole(number, worth_of(e.get(), context)),
     }
 }
 
@@ -124,7 +125,7 @@ fn are_ranges(high: u128, low: u128, ranges: &[Range], context: &Context) -> boo
     ensures { result ≡ are_ranges (values_in context.now) high low ranges.now }
 {
     match ranges {
-        [range] => is_whole(high, worth_of(&range.high, context))
+        [range] => is_whole(high, worth_of(range.high.get(), context))
             && is_there(low, &range.low, context),
         _ => false,
     }

@@ -116,7 +116,7 @@ fn fixed(name: &[u8], limit: u8, fix: &Fix, context: &Context) -> Option<u8>
     ensures below { IfSome result (λ n. n < limit) }
 {
     if is_named(fix.name.text.as_slice(), name) {
-        number_below(limit, worth_of(&fix.value, context))
+        number_below(limit, worth_of(fix.value.get(), context))
     } else {
         None
     }

@@ -50,7 +50,7 @@ fn behaviour(
             ..
         } => {
             let names = fields_in(format, context);
-            state(alloc, behaviour, context, &names)
+            state(alloc, behaviour.get(), context, &names)
         }
         _ => Ok(None),
     }

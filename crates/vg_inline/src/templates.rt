@@ -15,7 +15,7 @@ use crate::made::Made;
 use crate::names::Names;
 use crate::placing::place;
 use crate::whole::declared_type;
-use sqlite_items::Items;
+use sqlite_items::{Boxed, Items};
 use std::alloc::{AllocError, Global};
 use vg_ast::{Expr, Item, TypeExpr};
 use vg_names::Table;
@@ -25,7 +25,7 @@ use vg_whole::Worth;
 #[tactic(auto, using(crate::proofs::Keeping::within_taking))]
 fn place_body(
     alloc: Global,
-    declared: &TypeExpr<Expr>,
+    declared: &TypeExpr<Boxed<Expr>>,
     body: &Expr,
     context: &Context,
 ) -> Result<Option<Made>, AllocError>
@@ -62,7 +62,7 @@ fn template(
                 templates,
                 parameters: parameters.as_slice(),
             };
-            place_body(alloc, result, body, &context)
+            place_body(alloc, result, body.get(), &context)
         }
         _ => Ok(None),
     }

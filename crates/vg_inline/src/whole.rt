@@ -5,6 +5,7 @@ ghost use Rattle.vg_inline.specs.Context.{binding_worths, constants_of, declared
 use crate::Declared;
 use crate::bindings::Bindings;
 use crate::context::{Context, alias, constant};
+use sqlite_items::Boxed;
 use vg_ast::{Expr, TypeExpr};
 use vg_whole::{Worth, worth_of_binary};
 
@@ -66,13 +67,13 @@ pub fn whole(e: &Expr, bindings: &Bindings, context: &Context) -> Worth
 }
 
 /// A declared type.
-pub fn declared_type(declared: &TypeExpr<Expr>, context: &Context) -> Declared
+pub fn declared_type(declared: &TypeExpr<Boxed<Expr>>, context: &Context) -> Declared
     ensures { result ≡ declared_in context.now declared.now }
 {
     match declared {
         TypeExpr::Sized { kind, width, .. } => Declared::Sized {
             kind: *kind,
-            width: whole(width, &Bindings::Nothing, context),
+            width: whole(width.get(), &Bindings::Nothing, context),
         },
         TypeExpr::Bool { .. } => Declared::Bool,
         TypeExpr::Alias(name) => alias(context, name.text.as_slice()),

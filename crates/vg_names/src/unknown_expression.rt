@@ -101,22 +101,22 @@ fn cast_type(target: &TypeExpr<Boxed<Expr>>, table: &Table, inner: &Inner) -> Op
 }
 
 /// The first unknown name of a type.
-pub fn type_of(written: &TypeExpr<Expr>, table: &Table, inner: &Inner) -> Option<usize>
+pub fn type_of(written: &TypeExpr<Boxed<Expr>>, table: &Table, inner: &Inner) -> Option<usize>
     ensures { result ≡ first_of (type_unknowns table.now.items.now written.now (inner_names table.now.items.now inner.now)) }
 {
     match written {
-        TypeExpr::Sized { width, .. } => expression(width, table, inner),
+        TypeExpr::Sized { width, .. } => expression(width.get(), table, inner),
         TypeExpr::Bool { .. } => None,
         TypeExpr::Alias(name) => global(name, Asked::Alias, table, inner),
     }
 }
 
 /// The first unknown name of an expression that may be left out, where there are no inner names.
-pub fn optional(e: &Option<Expr>, table: &Table) -> Option<usize>
+pub fn optional(e: &Option<Boxed<Expr>>, table: &Table) -> Option<usize>
     ensures { result ≡ first_of (optional_unknowns table.now.items.now e.now) }
 {
     match e {
         None => None,
-        Some(e) => expression(e, table, &Inner::Nothing),
+        Some(e) => expression(e.get(), table, &Inner::Nothing),
     }
 }

@@ -17,6 +17,7 @@ use crate::table::Table;
 use crate::unknown_expression::{expression, optional, type_of};
 use crate::unknown_name::{field_use, global, unless};
 use crate::unknown_statement::statement;
+use sqlite_items::Boxed;
 use vg_ast::{Expr, Field, Fix, Item, Name, Parameter, Part, Range, Statement, TypeExpr};
 
 /// The first unknown name of the types of parameters.
@@ -34,7 +35,7 @@ fn parameters(parameters: &[Parameter], table: &Table) -> Option<usize>
 fn range(range: &Range, table: &Table) -> Option<usize>
     ensures { result ≡ first_of (range_unknowns table.now.items.now range.now) }
 {
-    expression(&range.high, table, &Inner::Nothing).or(optional(&range.low, table))
+    expression(range.high.get(), table, &Inner::Nothing).or(optional(&range.low, table))
 }
 
 /// The first unknown name of the ranges of a field.
@@ -64,7 +65,7 @@ fn fields(fields: &[Field], table: &Table) -> Option<usize>
 fn fix(fix: &Fix, table: &Table, fields: &Inner) -> Option<usize>
     ensures { result ≡ first_of (fix_unknowns table.now.items.now (inner_names table.now.items.now fields.now) fix.now) }
 {
-    field_use(&fix.name, table, fields).or(expression(&fix.value, table, &Inner::Nothing))
+    field_use(&fix.name, table, fields).or(expression(fix.value.get(), table, &Inner::Nothing))
 }
 
 /// The first unknown name of the fixed fields of an encoding.
@@ -91,7 +92,7 @@ fn part(part: &Part, table: &Table, fields: &Inner) -> Option<usize>
         }
         Part::Number { field, .. } => field_use(field, table, fields),
         Part::Target { field, shift, .. } => field_use(field, table, fields).or(expression(
-            shift,
+            shift.get(),
             table,
             &Inner::Nothing,
         )),
@@ -157,7 +158,7 @@ fn has_encoding(name: &Name, table: &Table) -> bool
 fn function(
     number: usize,
     declared: &[Parameter],
-    given: &TypeExpr<Expr>,
+    given: &TypeExpr<Boxed<Expr>>,
     body: &Expr,
     table: &Table,
 ) -> Option<usize>
@@ -202,9 +203,9 @@ fn assembly(assembled: &Name, row: &[Part], table: &Table) -> Option<usize>
 
 /// The first unknown name of a register file.
 fn register_file(
-    index: &TypeExpr<Expr>,
-    declared: &TypeExpr<Expr>,
-    zero: &Option<Expr>,
+    index: &TypeExpr<Boxed<Expr>>,
+    declared: &TypeExpr<Boxed<Expr>>,
+    zero: &Option<Boxed<Expr>>,
     table: &Table,
 ) -> Option<usize>
     ensures { result ≡ first_of (type_unknowns table.now.items.now index.now [] ++ type_unknowns table.now.items.now declared.now [] ++ optional_unknowns table.now.items.now zero.now) }
@@ -221,7 +222,7 @@ fn item(number: usize, item: &Item, table: &Table) -> Option<usize>
 {
     let none = &Inner::Nothing;
     match item {
-        Item::Constant { value, .. } => expression(value, table, none),
+        Item::Constant { value, .. } => expression(value.get(), table, none),
         Item::Using {
             meaning: written,
             ..
@@ -239,7 +240,7 @@ fn item(number: usize, item: &Item, table: &Table) -> Option<usize>
             result: given,
             body,
             ..
-        } => function(number, declared.as_slice(), given, body, table),
+        } => function(number, declared.as_slice(), given, body.get(), table),
         Item::Memory { address, cell, .. } => {
             type_of(address, table, none).or(type_of(cell, table, none))
         }
@@ -259,7 +260,7 @@ fn item(number: usize, item: &Item, table: &Table) -> Option<usize>
             format,
             behaviour,
             ..
-        } => instruction(name, format, behaviour, table),
+        } => instruction(name, format, behaviour.get(), table),
         Item::Encoding { name, fixes, .. } => encoding(name, fixes.as_slice(), table),
         Item::Assembly { name, parts, .. } => assembly(name, parts.as_slice(), table),
     }

@@ -22,7 +22,7 @@ fn register(register: &Register, table: &Table) -> Option<usize>
     ensures { result ≡ first_of (register_unknowns table.now.items.now register.now) }
 {
     global(&register.file, Asked::RegisterFile, table, &Inner::Nothing).or(expression(
-        &register.index,
+        register.index.get(),
         table,
         &Inner::Nothing,
     ))
@@ -60,13 +60,11 @@ fn role(role: &Role, table: &Table) -> Option<usize>
             ..
         } => registers(named.as_slice(), table),
         Role::Code { base, .. } | Role::Data { base, .. } => {
-            expression(base, table, &Inner::Nothing)
+            expression(base.get(), table, &Inner::Nothing)
         }
-        Role::Stack { low, high, .. } => expression(low, table, &Inner::Nothing).or(expression(
-            high,
-            table,
-            &Inner::Nothing,
-        )),
+        Role::Stack { low, high, .. } => expression(low.get(), table, &Inner::Nothing).or(
+            expression(high.get(), table, &Inner::Nothing),
+        ),
     }
 }
 

@@ -62,7 +62,7 @@ fn excess(alloc: Global, item: &Item, context: &Context) -> Result<Option<usize>
             behaviour,
             ..
         } => {
-            let nodes = behaviour_nodes(alloc, behaviour, format, context)?;
+            let nodes = behaviour_nodes(alloc, behaviour.get(), format, context)?;
             if nodes > MOST_NODES {
                 Ok(Some(name.at))
             } else {

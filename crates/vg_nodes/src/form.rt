@@ -79,7 +79,7 @@ pub fn work_out(
             let form = form_of(
                 alloc,
                 parameters.as_slice(),
-                body,
+                body.get(),
                 table,
                 worths,
                 forms.as_slice(),

@@ -7,7 +7,7 @@ ghost use Rattle.vg_order.specs.Scoped.{HasNames, inner_of, parameter_texts};
 
 use crate::scope::Scope;
 use indexmap::IndexSet;
-use sqlite_items::Items;
+use sqlite_items::{Boxed, Items};
 use std::alloc::{AllocError, Global};
 use vg_ast::{Expr, Item, Name, Parameter, TypeExpr};
 use vg_names::Table;
@@ -123,7 +123,7 @@ fn expression_uses<'a>(
 
 /// Notes the numbers of the items whose names a type uses.
 fn type_uses<'a>(
-    declared: &'a TypeExpr<Expr>,
+    declared: &'a TypeExpr<Boxed<Expr>>,
     scope: &Scope,
     bound: &mut Vec<&'a [char]>,
     uses: &mut Vec<usize>,
@@ -133,7 +133,7 @@ fn type_uses<'a>(
     ensures uses { OnOk result (uses.new.items ≡ with_numbers (number_named scope.now.table.now.items.now) uses.old.items (type_expr_names declared.now (inner_of bound.old.items (parameter_texts scope.now.parameters.now)))) }
 {
     match declared {
-        TypeExpr::Sized { width, .. } => expression_uses(width, scope, bound, uses),
+        TypeExpr::Sized { width, .. } => expression_uses(width.get(), scope, bound, uses),
         TypeExpr::Bool { .. } => Ok(()),
         TypeExpr::Alias(name) => name_uses(name, scope, bound.as_slice(), uses),
     }
@@ -208,7 +208,7 @@ fn item_uses<'a>(
         hidden: &hidden,
     };
     match item {
-        Item::Constant { value, .. } => expression_uses(value, &outside, &mut bound, uses),
+        Item::Constant { value, .. } => expression_uses(value.get(), &outside, &mut bound, uses),
         Item::Using { meaning, .. } => type_uses(meaning, &outside, &mut bound, uses),
         Item::Function {
             parameters,
@@ -218,7 +218,7 @@ fn item_uses<'a>(
         } => {
             parameter_uses(parameters.as_slice(), &outside, &mut bound, uses)?;
             type_uses(returned, &outside, &mut bound, uses)?;
-            body_uses(alloc, body, parameters.as_slice(), table, uses)
+            body_uses(alloc, body.get(), parameters.as_slice(), table, uses)
         }
         _ => Ok(()),
     }

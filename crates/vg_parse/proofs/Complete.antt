@@ -16,9 +16,9 @@ use Rattle.vg_ast.specs.SpellingItem.{Spells, spelled_item, spelled_role, spelle
 use Rattle.vg_ast.specs.Grammar.{is_item, is_role, is_description}
 use Rattle.vg_ast.specs.TreeItem.{item_of, role_of, micro_item_of, description_of}
 use Rattle.vg_ast.specs.Piece.{is_closing}
-use Rattle.vg_item.specs.declared.heading.Heading.{Heading}
-use Rattle.vg_item.specs.Reading.{abi_heading_piece, closing_piece}
-use Rattle.vg_item.specs.Exact.{IsExact, ClosingIsExact, isa_heading_of, abi_heading_of, micro_heading_of}
+use Rattle.vg_parse_item.specs.declared.heading.Heading.{Heading}
+use Rattle.vg_parse_item.specs.Reading.{abi_heading_piece, closing_piece}
+use Rattle.vg_parse_item.specs.Exact.{IsExact, ClosingIsExact, isa_heading_of, abi_heading_of, micro_heading_of}
 use Rattle.vg_parse.specs.declared.state.State.{State}
 use Rattle.vg_parse.specs.declared.state.State.TheVariants.{Start, InIsa, Behind, InAbi, InMicro}
 use Rattle.vg_parse.specs.Run.{isa_step, abi_step, micro_step, micro_begin, abi_begin, behind_step, step, run}

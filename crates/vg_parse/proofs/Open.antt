@@ -6,9 +6,9 @@ use Rattle.std.proofs.lemmas.List.Folds.{list_all-append}
 use Rattle.vg_tok.specs.declared.sign.Sign.TheVariants as signs
 use Rattle.vg_ast.specs.Placed.{Placed, sign}
 use Rattle.vg_ast.specs.SpellingItem.{Spells}
-use Rattle.vg_item.specs.declared.heading.Heading.{Heading}
-use Rattle.vg_item.specs.Reading.{closing_piece}
-use Rattle.vg_item.specs.Exact.{IsExact, ItemIsExact, RoleIsExact, MicroItemIsExact, IsaHeadingIsExact, AbiHeadingIsExact, MicroHeadingIsExact, ClosingIsExact}
+use Rattle.vg_parse_item.specs.declared.heading.Heading.{Heading}
+use Rattle.vg_parse_item.specs.Reading.{closing_piece}
+use Rattle.vg_parse_item.specs.Exact.{IsExact, ItemIsExact, RoleIsExact, MicroItemIsExact, IsaHeadingIsExact, AbiHeadingIsExact, MicroHeadingIsExact, ClosingIsExact}
 use Rattle.vg_parse.proofs.Pieces.{each, closed, section_pieces}
 pub use Rattle.std.proofs.lemmas.Bool.{and_parts as split_true}
 

@@ -11,7 +11,7 @@ use Rattle.vg_ast.specs.TreeItem.{description_of}
 use Rattle.vg_ast.specs.Description.{IsDescription, Reads}
 use Rattle.vg_ast.specs.Piece.{Depths, no_depths, depths_behind, begins_piece, closes_part, Cut, cut, cut_before, pieces}
 use Rattle.vg_ast.specs.Leaving.{BeginDescription, BeginsAt, IsFirstWrong, end_of, LeavesAt}
-use Rattle.vg_expression.specs.Lexeme.{◌>>=◌}
+use Rattle.vg_parse_expr.specs.Lexeme.{◌>>=◌}
 use Rattle.vg_parse.specs.declared.state.State.{State}
 use Rattle.vg_parse.specs.declared.state.State.TheVariants.{Start, InIsa, Behind, InAbi, InMicro}
 use Rattle.vg_parse.specs.Run.{step, run, first_wrong, IsRead, StopsAt}

@@ -1,5 +1,5 @@
 -- The readers of pieces read exactly what the grammar has.
-use Rattle.vg_item.proofs.PieceExact.{item_exact, role_exact, micro_item_exact, isa_heading_exact, abi_heading_exact, micro_heading_exact, closing_exact}
+use Rattle.vg_parse_item.proofs.PieceExact.{item_exact, role_exact, micro_item_exact, isa_heading_exact, abi_heading_exact, micro_heading_exact, closing_exact}
 use Rattle.vg_parse.proofs.Open.{AreExact}
 
 pub readers : AreExact

@@ -11,10 +11,10 @@ use Rattle.vg_ast.specs.ConcreteItem.{Item, Role, MicroItem, IsaHeading, AbiHead
 use Rattle.vg_ast.specs.SpellingItem.{spelled_item, spelled_role, spelled_micro_item, spelled_isa_heading, spelled_abi_heading, spelled_micro_heading}
 use Rattle.vg_ast.specs.Grammar.{is_item, is_role, is_description}
 use Rattle.vg_ast.specs.TreeItem.{item_of, role_of, micro_item_of, description_of}
-use Rattle.vg_expression.specs.Lexeme.{◌>>=◌}
-use Rattle.vg_item.specs.declared.heading.Heading.{Heading}
-use Rattle.vg_item.specs.Reading.{item_piece, role_piece, micro_item_piece, isa_heading_piece, abi_heading_piece, micro_heading_piece, closing_piece}
-use Rattle.vg_item.specs.Exact.{isa_heading_of, abi_heading_of, micro_heading_of}
+use Rattle.vg_parse_expr.specs.Lexeme.{◌>>=◌}
+use Rattle.vg_parse_item.specs.declared.heading.Heading.{Heading}
+use Rattle.vg_parse_item.specs.Reading.{item_piece, role_piece, micro_item_piece, isa_heading_piece, abi_heading_piece, micro_heading_piece, closing_piece}
+use Rattle.vg_parse_item.specs.Exact.{isa_heading_of, abi_heading_of, micro_heading_of}
 use Rattle.vg_parse.specs.declared.state.State.{State}
 use Rattle.vg_parse.specs.declared.state.State.TheVariants.{Start, InIsa, Behind, InAbi, InMicro}
 use Rattle.vg_parse.specs.Run.{isa_step, abi_step, micro_step, micro_begin, abi_begin, behind_step, step, run}

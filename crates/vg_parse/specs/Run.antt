@@ -9,9 +9,9 @@ use Rattle.vg_tok.specs.declared.token.Token.{Token}
 use Rattle.vg_ast.specs.Placed.{Placed, placed}
 use Rattle.vg_ast.specs.Piece.{pieces}
 use Rattle.vg_ast.specs.Leaving.{BeginsAt, end_of}
-use Rattle.vg_expression.specs.Lexeme.{◌>>=◌}
-use Rattle.vg_item.specs.declared.heading.Heading.{Heading}
-use Rattle.vg_item.specs.Reading.{item_piece, role_piece, micro_item_piece, isa_heading_piece, abi_heading_piece, micro_heading_piece, closing_piece}
+use Rattle.vg_parse_expr.specs.Lexeme.{◌>>=◌}
+use Rattle.vg_parse_item.specs.declared.heading.Heading.{Heading}
+use Rattle.vg_parse_item.specs.Reading.{item_piece, role_piece, micro_item_piece, isa_heading_piece, abi_heading_piece, micro_heading_piece, closing_piece}
 use Rattle.vg_parse.specs.declared.state.State.{State}
 use Rattle.vg_parse.specs.declared.state.State.TheVariants.{Start, InIsa, Behind, InAbi, InMicro}
 

@@ -11,7 +11,7 @@
 //! most, one place at most, one of the two always, and never both.
 //!
 //! The main types are `vg_ast`'s `Desc` and [`ParseFault`]. Within the crate a `State` holds what is read so far: a text is
-//! read a piece after another, each by the reader of `vg_item` that the state asks for. `specs/Run.antt` has this reading
+//! read a piece after another, each by the reader of `vg_parse_item` that the state asks for. `specs/Run.antt` has this reading
 //! as a function on pieces.
 //!
 //! A text may have any length, and what its items hold may be nested 64 deep. There is no recursion on the text. Each

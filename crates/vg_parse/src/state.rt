@@ -1,6 +1,6 @@
 use sqlite_items::Items;
 use vg_ast::{Desc, Item, MicroItem, Role};
-use vg_item::Heading;
+use vg_parse_item::Heading;
 
 /// How far a description is read, with the trees of what is read. A part that is open has its heading and what stands in
 /// its braces so far.

@@ -1,13 +1,15 @@
 ghost use Rattle.std.specs.Prelude.{◌≡◌, IfOk};
 ghost use Rattle.vg_ast.specs.Placed.{placed};
-ghost use Rattle.vg_expression.specs.Lexeme.{Reads};
+ghost use Rattle.vg_parse_expr.specs.Lexeme.{Reads};
 ghost use Rattle.vg_parse.specs.Run.{isa_step, abi_step, micro_step, micro_begin, abi_begin, behind_step, step};
 
 use crate::state::State;
 use sqlite_items::Items;
 use std::alloc::{AllocError, Global};
 use vg_ast::{Abi, Desc, Item, Micro, MicroItem, Role};
-use vg_item::{Heading, abi_heading, closing, isa_heading, item, micro_heading, micro_item, role};
+use vg_parse_item::{
+    Heading, abi_heading, closing, isa_heading, item, micro_heading, micro_item, role,
+};
 use vg_tok::Token;
 
 /// What is read with a piece in the braces of the instruction set part.

@@ -1,6 +1,7 @@
 //! Expressions and types.
 
 use crate::words::{push_head, push_name, push_next_name, push_number};
+use sqlite_items::Boxed;
 use std::alloc::{AllocError, Global};
 use vg_ast::{BinaryOperator, BitsKind, Expr, Name, TypeExpr, UnaryOperator};
 
@@ -55,8 +56,9 @@ fn push_bool(alloc: Global, out: &mut String, at: usize) -> Result<(), AllocErro
 }
 
 /// A type, behind a space.
+#[cycle(expression)]
 pub fn push_type(
-    declared: &TypeExpr<Expr>,
+    declared: &TypeExpr<Boxed<Expr>>,
     alloc: Global,
     out: &mut String,
 ) -> Result<(), AllocError> {
@@ -64,7 +66,7 @@ pub fn push_type(
         TypeExpr::Sized { kind, at, width } => {
             out.push_str(" ")?;
             push_head(alloc, out, kind_word(*kind), *at)?;
-            push_next(width, alloc, out)?;
+            push_next(width.get(), alloc, out)?;
             out.push_str(")")
         }
         TypeExpr::Bool { at } => push_bool(alloc, out, *at),
@@ -134,16 +136,7 @@ pub fn push_expression(expr: &Expr, alloc: Global, out: &mut String) -> Result<(
         } => {
             push_head(alloc, out, "as", *at)?;
             push_next(operand.get(), alloc, out)?;
-            match target {
-                TypeExpr::Sized { kind, at, width } => {
-                    out.push_str(" ")?;
-                    push_head(alloc, out, kind_word(*kind), *at)?;
-                    push_next(width.get(), alloc, out)?;
-                    out.push_str(")")?;
-                }
-                TypeExpr::Bool { at } => push_bool(alloc, out, *at)?,
-                TypeExpr::Alias(name) => push_next_name(alloc, out, name)?,
-            }
+            push_type(target, alloc, out)?;
         }
         Expr::Slice {
             operand,

@@ -35,9 +35,9 @@ fn push_field(alloc: Global, out: &mut String, field: &Field) -> Result<(), Allo
     push_name(alloc, out, &field.name)?;
     for range in field.ranges.as_slice() {
         out.push_str(" (range")?;
-        push_next(&range.high, alloc, out)?;
+        push_next(range.high.get(), alloc, out)?;
         if let Some(low) = &range.low {
-            push_next(low, alloc, out)?;
+            push_next(low.get(), alloc, out)?;
         }
         out.push_str(")")?;
     }
@@ -47,7 +47,7 @@ fn push_field(alloc: Global, out: &mut String, field: &Field) -> Result<(), Allo
 fn push_fix(alloc: Global, out: &mut String, fix: &Fix) -> Result<(), AllocError> {
     out.push_str(" (")?;
     push_name(alloc, out, &fix.name)?;
-    push_next(&fix.value, alloc, out)?;
+    push_next(fix.value.get(), alloc, out)?;
     out.push_str(")")
 }
 
@@ -81,7 +81,7 @@ fn push_part(alloc: Global, out: &mut String, part: &Part) -> Result<(), AllocEr
         Part::Target { at, field, shift } => {
             push_head(alloc, out, "target", *at)?;
             push_next_name(alloc, out, field)?;
-            push_next(shift, alloc, out)?;
+            push_next(shift.get(), alloc, out)?;
         }
     }
     out.push_str(")")
@@ -92,7 +92,7 @@ pub fn push_item(alloc: Global, out: &mut String, item: &Item) -> Result<(), All
     match item {
         Item::Constant { at, name, value } => {
             push_named(alloc, out, "constant", *at, name)?;
-            push_next(value, alloc, out)?;
+            push_next(value.get(), alloc, out)?;
         }
         Item::Using { at, name, meaning } => {
             push_named(alloc, out, "using", *at, name)?;
@@ -110,7 +110,7 @@ pub fn push_item(alloc: Global, out: &mut String, item: &Item) -> Result<(), All
                 push_parameter(alloc, out, parameter)?;
             }
             push_type(result, alloc, out)?;
-            push_next(body, alloc, out)?;
+            push_next(body.get(), alloc, out)?;
         }
         Item::ProgramCounter { at, name, declared } => {
             push_named(alloc, out, "counter", *at, name)?;
@@ -141,7 +141,7 @@ pub fn push_item(alloc: Global, out: &mut String, item: &Item) -> Result<(), All
             push_type(index, alloc, out)?;
             push_type(declared, alloc, out)?;
             if let Some(zero) = zero {
-                push_next(zero, alloc, out)?;
+                push_next(zero.get(), alloc, out)?;
             }
         }
         Item::Format {
@@ -164,7 +164,7 @@ pub fn push_item(alloc: Global, out: &mut String, item: &Item) -> Result<(), All
         } => {
             push_named(alloc, out, "instruction", *at, name)?;
             push_next_name(alloc, out, format)?;
-            push_statement(behaviour, alloc, out)?;
+            push_statement(behaviour.get(), alloc, out)?;
         }
         Item::Encoding { at, name, fixes } => {
             push_named(alloc, out, "encoding", *at, name)?;

@@ -9,7 +9,7 @@ use vg_ast::{Abi, Act, Desc, Micro, MicroItem, Register, Role};
 fn push_register(alloc: Global, out: &mut String, register: &Register) -> Result<(), AllocError> {
     out.push_str(" (")?;
     push_name(alloc, out, &register.file)?;
-    push_next(&register.index, alloc, out)?;
+    push_next(register.index.get(), alloc, out)?;
     out.push_str(")")
 }
 
@@ -53,16 +53,16 @@ fn push_role(alloc: Global, out: &mut String, role: &Role) -> Result<(), AllocEr
         }
         Role::Code { at, base } => {
             push_head(alloc, out, "code", *at)?;
-            push_next(base, alloc, out)?;
+            push_next(base.get(), alloc, out)?;
         }
         Role::Data { at, base } => {
             push_head(alloc, out, "data", *at)?;
-            push_next(base, alloc, out)?;
+            push_next(base.get(), alloc, out)?;
         }
         Role::Stack { at, low, high } => {
             push_head(alloc, out, "stack", *at)?;
-            push_next(low, alloc, out)?;
-            push_next(high, alloc, out)?;
+            push_next(low.get(), alloc, out)?;
+            push_next(high.get(), alloc, out)?;
         }
     }
     out.push_str(")")

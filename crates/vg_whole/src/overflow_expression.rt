@@ -7,6 +7,7 @@ ghost use Rattle.vg_whole.specs.Worths.{constants_by};
 use crate::Worth;
 use crate::bindings::Bindings;
 use crate::judging::judged;
+use sqlite_items::Boxed;
 use vg_ast::{Expr, TypeExpr};
 use vg_names::{Inner, Table};
 
@@ -25,21 +26,21 @@ pub fn global(e: &Expr, table: &Table, worths: &[Worth]) -> Option<usize>
 }
 
 /// The first operator of a type.
-pub fn type_of(written: &TypeExpr<Expr>, table: &Table, worths: &[Worth]) -> Option<usize>
+pub fn type_of(written: &TypeExpr<Boxed<Expr>>, table: &Table, worths: &[Worth]) -> Option<usize>
     ensures { result ≡ first_of (type_overflows (constants_by table.now.items.now worths.now) written.now []) }
 {
     match written {
-        TypeExpr::Sized { width, .. } => global(width, table, worths),
+        TypeExpr::Sized { width, .. } => global(width.get(), table, worths),
         TypeExpr::Bool { .. } | TypeExpr::Alias(_) => None,
     }
 }
 
 /// The first operator of an expression that may be left out.
-pub fn optional(e: &Option<Expr>, table: &Table, worths: &[Worth]) -> Option<usize>
+pub fn optional(e: &Option<Boxed<Expr>>, table: &Table, worths: &[Worth]) -> Option<usize>
     ensures { result ≡ first_of (optional_overflows (constants_by table.now.items.now worths.now) e.now) }
 {
     match e {
         None => None,
-        Some(e) => global(e, table, worths),
+        Some(e) => global(e.get(), table, worths),
     }
 }

@@ -16,6 +16,7 @@ use crate::Worth;
 use crate::bindings::Bindings;
 use crate::overflow_expression::{expression, global, optional, type_of};
 use crate::overflow_statement::statement;
+use sqlite_items::Boxed;
 use vg_ast::{Expr, Field, Fix, Item, Name, Parameter, Part, Range, Statement, TypeExpr};
 use vg_names::{Inner, Table};
 
@@ -34,7 +35,7 @@ fn parameters(parameters: &[Parameter], table: &Table, worths: &[Worth]) -> Opti
 fn range(range: &Range, table: &Table, worths: &[Worth]) -> Option<usize>
     ensures { result ≡ first_of (range_overflows (constants_by table.now.items.now worths.now) range.now) }
 {
-    global(&range.high, table, worths).or(optional(&range.low, table, worths))
+    global(range.high.get(), table, worths).or(optional(&range.low, table, worths))
 }
 
 /// The first operator of the ranges of a field.
@@ -66,7 +67,7 @@ fn fixes(fixes: &[Fix], table: &Table, worths: &[Worth]) -> Option<usize>
     ensures { result ≡ first_of (in_each (λ (fix : Fix). expression_overflows (constants_by table.now.items.now worths.now) fix.value []) fixes.now) }
 {
     for fix in fixes {
-        if let Some(at) = global(&fix.value, table, worths) {
+        if let Some(at) = global(fix.value.get(), table, worths) {
             return Some(at);
         }
     }
@@ -77,7 +78,7 @@ fn part(part: &Part, table: &Table, worths: &[Worth]) -> Option<usize>
     ensures { result ≡ first_of (part_overflows (constants_by table.now.items.now worths.now) part.now) }
 {
     match part {
-        Part::Target { shift, .. } => global(shift, table, worths),
+        Part::Target { shift, .. } => global(shift.get(), table, worths),
         _ => None,
     }
 }
@@ -109,7 +110,7 @@ fn fields_of_format_named(format: &Name, table: &Table) -> Inner<'static>
 fn function(
     number: usize,
     declared: &[Parameter],
-    given: &TypeExpr<Expr>,
+    given: &TypeExpr<Boxed<Expr>>,
     body: &Expr,
     table: &Table,
     worths: &[Worth],
@@ -146,14 +147,21 @@ fn item(number: usize, item: &Item, table: &Table, worths: &[Worth]) -> Option<u
     ensures { result ≡ first_of (item_overflows table.now.items.now (constants_by table.now.items.now worths.now) item.now) }
 {
     match item {
-        Item::Constant { value, .. } => global(value, table, worths),
+        Item::Constant { value, .. } => global(value.get(), table, worths),
         Item::Using { meaning, .. } => type_of(meaning, table, worths),
         Item::Function {
             parameters: declared,
             result: given,
             body,
             ..
-        } => function(number, declared.as_slice(), given, body, table, worths),
+        } => function(
+            number,
+            declared.as_slice(),
+            given,
+            body.get(),
+            table,
+            worths,
+        ),
         Item::ProgramCounter { declared, .. } | Item::Register { declared, .. } => {
             type_of(declared, table, worths)
         }
@@ -177,7 +185,7 @@ fn item(number: usize, item: &Item, table: &Table, worths: &[Worth]) -> Option<u
             format,
             behaviour,
             ..
-        } => behaviour_of(behaviour, format, table, worths),
+        } => behaviour_of(behaviour.get(), format, table, worths),
         Item::Encoding { fixes: fixed, .. } => fixes(fixed.as_slice(), table, worths),
         Item::Assembly { parts: row, .. } => parts(row.as_slice(), table, worths),
     }

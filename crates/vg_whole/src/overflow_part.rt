@@ -16,7 +16,7 @@ fn registers(registers: &[Register], table: &Table, worths: &[Worth]) -> Option<
     ensures { result ≡ first_of (in_each (register_overflows (constants_by table.now.items.now worths.now)) registers.now) }
 {
     for register in registers {
-        if let Some(at) = global(&register.index, table, worths) {
+        if let Some(at) = global(register.index.get(), table, worths) {
             return Some(at);
         }
     }
@@ -29,7 +29,7 @@ fn role(role: &Role, table: &Table, worths: &[Worth]) -> Option<usize>
     match role {
         Role::StackPointer { register, .. }
         | Role::ReturnAddress { register, .. }
-        | Role::ReturnValue { register, .. } => global(&register.index, table, worths),
+        | Role::ReturnValue { register, .. } => global(register.index.get(), table, worths),
         Role::Arguments {
             registers: named,
             ..
@@ -42,9 +42,9 @@ fn role(role: &Role, table: &Table, worths: &[Worth]) -> Option<usize>
             registers: named,
             ..
         } => registers(named.as_slice(), table, worths),
-        Role::Code { base, .. } | Role::Data { base, .. } => global(base, table, worths),
+        Role::Code { base, .. } | Role::Data { base, .. } => global(base.get(), table, worths),
         Role::Stack { low, high, .. } => {
-            global(low, table, worths).or(global(high, table, worths))
+            global(low.get(), table, worths).or(global(high.get(), table, worths))
         }
     }
 }

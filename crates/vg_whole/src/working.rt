@@ -18,7 +18,7 @@ fn worth_of_item(item: &Item, table: &Table, worths: &[Worth]) -> Worth
 {
     match item {
         Item::Constant { value, .. } => {
-            judged(value, &Bindings::Typed(Inner::Nothing), table, worths).worth
+            judged(value.get(), &Bindings::Typed(Inner::Nothing), table, worths).worth
         }
         _ => Worth::Typed,
     }
