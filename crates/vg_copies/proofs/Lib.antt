@@ -1,0 +1,9 @@
+pub mod Saved
+pub mod Finish
+pub mod Ring
+pub mod Steps
+pub mod Proceed
+pub mod Fresh
+pub mod Tables
+pub mod Whole
+pub mod Advance
