@@ -1,19 +1,27 @@
--- The description of a form is checked: its trees have the widths that their places need.
-use Rattle.std.proofs.Common.{◌≡◌, ℕ, Bool, true, ◌&&◌, IsTrue, nat_eq, List, [], ◌∷◌, map, refl, ap, ◌∙◌, Some}
+-- The description of a form is accepted.
+use Rattle.std.proofs.Common.{◌≡◌, ◌≤◌, ◌^◌, ℕ, Bool, true, false, ◌&&◌, IsTrue, nat_eq, nat_le, nat_lt, List, [], ◌∷◌, ◌++◌, length, map, refl, ap, ◌∙◌, Some, arith}
 use Rattle.std.specs.List.{list_all}
+use Rattle.std.proofs.lemmas.Bool.{and_from as conjunction}
+use Rattle.std.proofs.lemmas.Bool.Decides.{nat_tests}
+use Rattle.std.proofs.lemmas.List.{length-map}
+use Rattle.vg_isa.specs.declared.expr.Expr.{Expr}
 use Rattle.vg_isa.specs.declared.isa.Parts.{Parts}
 use Rattle.vg_isa.specs.Declaration.{is_file, register_width}
 use Rattle.vg_isa.specs.declared.expr.Expr.TheOpen.{Expr-F}
 use Rattle.vg_isa.specs.declared.expr.Expr.TheVariants as expr
 use Rattle.vg_isa.specs.declared.operator.BinOp.TheVariants as binop
 use Rattle.vg_isa.specs.declared.operator.CastOp.TheVariants as castop
-use Rattle.vg_isa.specs.Typing.{Typing, typing_step, typing_of, is_write, is_instr, is_isa}
+use Rattle.vg_isa.specs.Typing.{Typing, typing_step, typing_of, is_write}
+use Rattle.vg_isa.specs.Accepted.{are_fixed, are_nodes, are_writes, is_instr, is_isa, is_within_limits}
+use Rattle.vg_isa.specs.Node.{Node, nodes_of, is_plain}
+use Rattle.vg_isa.proofs.NodeLemmas.{nodes-Const, nodes-Field, nodes-Reg, nodes-Binary, nodes-Cast}
+use Rattle.vg_isa.proofs.Tests.{both}
 use Rattle.vg_isa.proofs.TypingLemmas.{typing-Const, typing-Field, typing-Reg, typing-Binary, typing-Cast}
 use Rattle.vg_form.specs.declared.form.Form.{Form}
 use Rattle.vg_form.specs.declared.form.Pair.{Pair}
 use Rattle.vg_form.specs.declared.form.Behaviour.{Behaviour}
 use Rattle.vg_form.specs.declared.form.Behaviour.TheVariants.{AddRegisters, AddField}
-use Rattle.vg_form.specs.Form.{field_at, register_of, value_tree, write_of, instr_of, parts_of}
+use Rattle.vg_form.specs.Form.{field_at, register_of, value_tree, write_of, fits_fields, instr_of, parts_of}
 
 -- a tree that is typed, with this width
 abbrev typed : ℕ → Typing
@@ -58,15 +66,68 @@ is_write-write_of form behaviour =
     ∙ ap (λ (t : Typing). register_write d (typed 1) t value) (typing-Field d (field_at 4))
     ∙ ap (λ (t : Typing). register_write d (typed 1) (typed 5) t) (typing-value_tree form behaviour)
 
-is_instr-instr_of : (form : Form) (pair : Pair) → IsTrue (is_instr (parts_of form) (instr_of pair))
-is_instr-instr_of form pair = ap (λ (b : Bool). (b && true) && true) (is_write-write_of form pair.behaviour)
+-- ---- nodes
 
-list_all-instr_of : (form : Form) (pairs : List Pair) → IsTrue (list_all (is_instr (parts_of form)) (map instr_of pairs))
-list_all-instr_of form [] = refl
-list_all-instr_of form (pair ∷ pairs) =
-    ap (λ (b : Bool). b && list_all (is_instr (parts_of form)) (map instr_of pairs)) (is_instr-instr_of form pair)
-    ∙ list_all-instr_of form pairs
+abbrev register_nodes : ℕ → List Node
+register_nodes index = Expr-F.Reg (record { 0 = 0 }) (Some (expr.Field (field_at index))) ∷ Expr-F.Field (field_at index) ∷ []
 
--- the description of each form is checked
-pub is_isa-parts_of : (form : Form) → IsTrue (is_isa (parts_of form))
-is_isa-parts_of form = list_all-instr_of form form.pairs
+nodes-register_of : (index : ℕ) → nodes_of (register_of index) ≡ register_nodes index
+nodes-register_of index =
+    nodes-Reg (record { 0 = 0 }) (expr.Field (field_at index))
+    ∙ ap (λ (ns : List Node). Expr-F.Reg (record { 0 = 0 }) (Some (expr.Field (field_at index))) ∷ ns) (nodes-Field (field_at index))
+
+field_plain : (index : ℕ) → is_plain (expr.Field (field_at index)) ≡ true
+field_plain index = rw (nodes-Field (field_at index)) refl
+
+-- the nodes of a sum whose left operand is the register of rs1
+nodes-sum : (right : Expr) (below : List Node) → nodes_of right ≡ below → nodes_of (expr.Binary binop.Add (register_of 2) right) ≡ Expr-F.Binary binop.Add (register_of 2) right ∷ register_nodes 2 ++ below
+nodes-sum right below is =
+    nodes-Binary binop.Add (register_of 2) right
+    ∙ ap (λ (ns : List Node). Expr-F.Binary binop.Add (register_of 2) right ∷ ns ++ nodes_of right) (nodes-register_of 2)
+    ∙ ap (λ (ns : List Node). Expr-F.Binary binop.Add (register_of 2) right ∷ register_nodes 2 ++ ns) is
+
+abbrev extended : Expr
+extended = expr.Cast castop.Extend 32 (expr.Field (field_at 1))
+
+nodes-extended : nodes_of extended ≡ Expr-F.Cast castop.Extend 32 (expr.Field (field_at 1)) ∷ Expr-F.Field (field_at 1) ∷ []
+nodes-extended = nodes-Cast castop.Extend 32 (expr.Field (field_at 1)) ∙ ap (λ (ns : List Node). Expr-F.Cast castop.Extend 32 (expr.Field (field_at 1)) ∷ ns) (nodes-Field (field_at 1))
+
+-- the fields and indices of an instruction's trees are as they should be, and no memory is read
+are_nodes-instr_of : (form : Form) (name : List ℕ) (behaviour : Behaviour) (f7 f3 op : ℕ) → IsTrue (are_nodes (parts_of form) (instr_of (record { name = name; behaviour = behaviour; f7 = f7; f3 = f3; op = op })))
+are_nodes-instr_of form name AddRegisters f7 f3 op =
+    rw (nodes-Const (record { width = 1; number = 1 }), nodes-Field (field_at 4), nodes-sum (register_of 1) (register_nodes 1) (nodes-register_of 1), field_plain 2, field_plain 1) refl
+are_nodes-instr_of form name AddField f7 f3 op =
+    rw (nodes-Const (record { width = 1; number = 1 }), nodes-Field (field_at 4), nodes-sum extended _ nodes-extended, field_plain 2) refl
+
+-- ---- the whole
+
+three : (a b c : Bool) → (a && b && c) ≡ true → ((a && (b && (c && true))) && true) ≡ true
+three true true true h = refl
+three true true false h = cc
+three true false c h = cc
+three false b c h = cc
+
+are_fixed-instr_of : (form : Form) (pair : Pair) → IsTrue (fits_fields pair) → IsTrue (are_fixed (parts_of form) (instr_of pair))
+are_fixed-instr_of form pair fit = three (nat_lt pair.f7 (2 ^ 7)) (nat_lt pair.f3 (2 ^ 3)) (nat_lt pair.op (2 ^ 7)) fit
+
+are_writes-instr_of : (form : Form) (pair : Pair) → IsTrue (are_writes (parts_of form) (instr_of pair))
+are_writes-instr_of form pair = rw (is_write-write_of form pair.behaviour, field_plain 4) refl
+
+is_instr-instr_of : (form : Form) (pair : Pair) → IsTrue (fits_fields pair) → IsTrue (is_instr (parts_of form) (instr_of pair))
+unfolding is_instr
+is_instr-instr_of form pair fit =
+    rw (are_fixed-instr_of form pair fit, are_writes-instr_of form pair, are_nodes-instr_of form pair.name pair.behaviour pair.f7 pair.f3 pair.op) refl
+
+list_all-instr_of : (form : Form) (pairs : List Pair) → IsTrue (list_all fits_fields pairs) → IsTrue (list_all (is_instr (parts_of form)) (map instr_of pairs))
+list_all-instr_of form [] fit = refl
+list_all-instr_of form (pair ∷ pairs) fit =
+    let split = both (fits_fields pair) (list_all fits_fields pairs) fit in
+    conjunction _ _ (is_instr-instr_of form pair split.0) (list_all-instr_of form pairs split.1)
+
+few : (pairs : List Pair) → length pairs ≤ 512 → nat_le (length (map instr_of pairs)) 512 ≡ true
+few pairs h = let same : length (map instr_of pairs) ≡ length pairs = length-map pairs instr_of in grind (arith, nat_tests)
+
+-- the description of each form is accepted
+pub is_isa-parts_of : (form : Form) → IsTrue (list_all fits_fields form.pairs) → length form.pairs ≤ 512 → IsTrue (is_isa (parts_of form))
+unfolding is_isa
+is_isa-parts_of form fit most = rw (list_all-instr_of form form.pairs fit, few form.pairs most) refl

@@ -1,6 +1,6 @@
 //! The description of a form. `F7` to `OP` are the places of the fields in its one format.
 
-ghost use Rattle.std.specs.Prelude.{◌≡◌, ◌∷◌, [], map, IfOk, IsTrue};
+ghost use Rattle.std.specs.Prelude.{◌≡◌, ◌≤◌, ◌∷◌, [], length, map, IfOk, IsTrue};
 ghost use Rattle.std.specs.List.{list_all};
 ghost use Rattle.vg_form.specs.Form.{field_at, field_decl, fields_r, format_r, register_of, value_tree, write_of, fits_fields, fixed_of, instr_of, register_file, parts_of};
 
@@ -209,7 +209,8 @@ fn parts(alloc: Global, form: &Form) -> Result<Parts, AllocError>
 
 /// The description of a form.
 pub(crate) fn isa_of_form(alloc: Global, form: &Form) -> Result<Isa, AllocError>
-    requires { IsTrue (list_all fits_fields form.now.pairs) }
+    requires fit { IsTrue (list_all fits_fields form.now.pairs) }
+    requires few { length form.now.pairs ≤ 512 }
     ensures { IfOk result (λ isa. isa ≡ parts_of form.now) }
 {
     let parts = parts(alloc, form)?;

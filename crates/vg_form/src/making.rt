@@ -1,6 +1,6 @@
 //! The processor of a description.
 
-ghost use Rattle.std.specs.Prelude.{◌≡◌, ◌⊎◌, ℕ, IfErr, IfOk, IsTrue};
+ghost use Rattle.std.specs.Prelude.{◌≡◌, ◌⊎◌, ◌≤◌, ℕ, length, IfErr, IfOk, IsTrue};
 ghost use Rattle.std.specs.List.{list_all};
 ghost use Rattle.vg_iss.specs.Kept.{is_memory_free};
 ghost use Rattle.vg_inline.specs.InPlace.{Known};
@@ -57,6 +57,7 @@ fn form_in(
     requires items { context.now.table.now.items.now ≡ description.now.items }
     ensures so { FindsSo (λ form. form) result (form_by description.now (values_in context.now) (left_of description.now.items effects.now)) }
     ensures fit { IfOk result (λ form. IsTrue (list_all fits_fields form.pairs)) }
+    ensures few { IfOk result (λ form. length form.pairs ≤ 512) }
 {
     let name = name(alloc, &description.name)?;
     let doings = doings(alloc, description.items.as_slice(), effects)?;
@@ -82,6 +83,7 @@ fn form(
     requires items { table.now.items.now ≡ description.now.items }
     ensures so { FindsSo (λ form. form) result (form_by description.now (values_by description.now.items worths.now aliases.now) (left_of description.now.items behaviours.now)) }
     ensures fit { IfOk result (λ form. IsTrue (list_all fits_fields form.pairs)) }
+    ensures few { IfOk result (λ form. length form.pairs ≤ 512) }
 {
     let context = Context {
         table,

@@ -1,6 +1,6 @@
 //! The instructions and their encodings.
 
-ghost use Rattle.std.specs.Prelude.{◌≡◌, ◌∷◌, [], ◌<◌, IfOk, IfSome, IsTrue};
+ghost use Rattle.std.specs.Prelude.{◌≡◌, ◌+◌, ◌∷◌, [], ◌<◌, ◌≤◌, length, IfOk, IfSome, IsTrue};
 ghost use Rattle.std.specs.List.{list_all, list_any};
 ghost use Rattle.vg_form.specs.Form.{fits_fields};
 ghost use Rattle.vg_form.specs.Description.{effect_step, encoding_of, fixed, instruction_of, is_ascii, is_rd, is_target, number_below, numbers_of, pair_of, pairs_behind, pairs_of, same_encoding, value_in, value_of, value_written};
@@ -212,9 +212,11 @@ fn pairs_behind(
     file: usize,
     context: &Context,
 ) -> Result<Items<Pair>, FormFault>
-    requires { IsTrue (list_all fits_fields front) }
+    requires fit { IsTrue (list_all fits_fields front) }
+    requires few { length front + room ≤ 512 }
     ensures so { FindsSo (λ pairs. pairs) result (pairs_behind file (values_in context.now) room front (all_doing doings.now)) }
     ensures fit { IfOk result (λ pairs. IsTrue (list_all fits_fields pairs)) }
+    ensures few { IfOk result (λ pairs. length pairs ≤ 512) }
 {
     let Some((first, behind)) = doings.split_first() else {
         return Ok(front);
@@ -245,6 +247,7 @@ pub(crate) fn pairs(
 ) -> Result<Items<Pair>, FormFault>
     ensures so { FindsSo (λ pairs. pairs) result (pairs_of file (values_in context.now) close (all_doing doings.now)) }
     ensures fit { IfOk result (λ pairs. IsTrue (list_all fits_fields pairs)) }
+    ensures few { IfOk result (λ pairs. length pairs ≤ 512) }
 {
     if doings.is_empty() {
         return Err(FormFault::Unlike { at: close });

@@ -7,12 +7,12 @@ use Rattle.std.proofs.lemmas.List.Elements.{All-from_recursion, recursion_from_A
 use Rattle.vg_text.specs.Number.{hexadecimal}
 use Rattle.vg_text.specs.Piece.{rest_after}
 use Rattle.vg_isa.specs.declared.isa.Parts.{Parts}
-use Rattle.vg_isa.specs.Typing.{is_isa}
+use Rattle.vg_isa.specs.Accepted.{is_isa}
+use Rattle.vg_isa.specs.Declaration.{word_bytes}
 use Rattle.vg_image.specs.declared.image.Image.{Image}
 use Rattle.vg_image.specs.declared.image.Symbol.{Symbol}
 use Rattle.vg_image.specs.declared.image_fault.ImageFault.{ImageFault}
 use Rattle.vg_image.specs.declared.image_fault.ImageFault.TheVariants as faults
-use Rattle.vg_image.specs.Step.{word_bytes}
 use Rattle.vg_image.specs.Spelling.{IsImage, IsSymbol, spelling, code_line, bytes_line, symbol_line, address_line}
 use Rattle.vg_image.specs.Reading.{IsSpelled, IsNoImage, IsRefusalOf, Refuses}
 use Rattle.vg_image.specs.Reader.{fixed_line_at, base_line_at, address_line_at, code_lines_at, room_of, ended, image_at}
@@ -227,6 +227,7 @@ image_at-read d text i typed is =
         words = All-from_recursion (λ word. word < 2 ^ d.word) i.code (subst (λ (m : ℕ). AllByRecursion (λ word. word < m) i.code) (word_space d.word widths.word) read.words);
         code_end = ends_from_room d.word i.base (2 ^ d.pc.width) (length i.code) widths.word (omega (arith, space, read.base)) read.within;
         symbols = no_symbols_all d i.symbols read.no_symbols;
+        bytes = rw read.no_bytes (λ k x within. absurd (omega arith));
         data_end = omega (arith, space, read.data_base, ap (λ (bs : List ℕ). length bs) read.no_bytes);
       };
       no_bytes = read.no_bytes;

@@ -1,6 +1,11 @@
 pub mod Bind
+pub mod Runs
 pub mod Lines
 pub mod CodeLines
 pub mod Widths
 pub mod Images
 pub mod Unbuilt
+pub mod Files
+pub mod States
+pub mod Kept
+pub mod SameReads

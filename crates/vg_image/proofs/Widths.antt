@@ -1,11 +1,10 @@
 -- The widths of a description: an address has a digit for each four bits, and a code word two for each byte.
-use Rattle.std.proofs.Common.{◌≡◌, ℕ, ◌+◌, ◌-◌, ◌*◌, ◌/◌, ◌^◌, ◌≤◌, ◌⊎◌, ◌&&◌, refl, sym, subst, inl, inr, arith}
+use Rattle.std.proofs.Common.{◌≡◌, ℕ, ◌+◌, ◌-◌, ◌*◌, ◌/◌, ◌^◌, ◌≤◌, ◌⊎◌, refl, sym, subst, inl, inr, arith}
 use Rattle.std.specs.Prelude.{IsTrue}
-use Rattle.std.specs.List.{list_all}
 use Rattle.std.proofs.lemmas.Bool.Decides.{nat_tests}
-use Rattle.std.proofs.lemmas.Bool.{and_parts}
 use Rattle.vg_isa.specs.declared.isa.Parts.{Parts}
-use Rattle.vg_isa.specs.Typing.{is_isa, is_machine_width, is_register_decl, is_format, is_instr}
+use Rattle.vg_isa.specs.Accepted.{is_isa, is_machine_width}
+use Rattle.vg_isa.proofs.Kept.{kept}
 
 abbrev pub IsMachineWidth : ℕ → Type 0
 IsMachineWidth n = (n ≡ 16) ⊎ ((n ≡ 32) ⊎ (n ≡ 64))
@@ -18,12 +17,7 @@ pub record AreWidths (d : Parts) : Type 0 where
   pub pc : IsMachineWidth d.pc.width
 
 pub are_widths : (d : Parts) → IsTrue (is_isa d) → AreWidths d
-are_widths d is =
-    let whole = and_parts (is_machine_width d.word && is_machine_width d.pc.width && list_all is_register_decl d.regs && list_all (is_format d.word) d.formats) (list_all (is_instr d) d.instrs) is in
-    let formats = and_parts (is_machine_width d.word && is_machine_width d.pc.width && list_all is_register_decl d.regs) (list_all (is_format d.word) d.formats) whole.0 in
-    let regs = and_parts (is_machine_width d.word && is_machine_width d.pc.width) (list_all is_register_decl d.regs) formats.0 in
-    let both = and_parts (is_machine_width d.word) (is_machine_width d.pc.width) regs.0 in
-    record { word = machine_width d.word both.0; pc = machine_width d.pc.width both.1 }
+are_widths d is = record { word = machine_width d.word (kept d is).word; pc = machine_width d.pc.width (kept d is).address }
 
 pub address_space : (n : ℕ) → IsMachineWidth n → 16 ^ (n / 4) ≡ 2 ^ n
 address_space n is =

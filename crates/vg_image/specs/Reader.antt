@@ -6,7 +6,7 @@ use Rattle.vg_isa.specs.declared.isa.Parts.{Parts}
 use Rattle.vg_image.specs.declared.image.Image.{Image}
 use Rattle.vg_image.specs.declared.refusal.Refusal.{Refusal}
 use Rattle.vg_image.specs.declared.refusal.Refusal.TheVariants as refusals
-use Rattle.vg_image.specs.Step.{word_bytes}
+use Rattle.vg_isa.specs.Declaration.{word_bytes}
 
 infixl 10 ◌>>=◌
 abbrev pub ◌>>=◌ : {A B : Type 0} → Option A → (A → Option B) → Option B

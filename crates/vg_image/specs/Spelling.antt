@@ -5,7 +5,7 @@ use Rattle.vg_text.specs.Number.{hexadecimal}
 use Rattle.vg_isa.specs.declared.isa.Parts.{Parts}
 use Rattle.vg_image.specs.declared.image.Image.{Image}
 use Rattle.vg_image.specs.declared.image.Symbol.{Symbol}
-use Rattle.vg_image.specs.Step.{word_bytes}
+use Rattle.vg_isa.specs.Declaration.{word_bytes}
 
 -- `0x` and a digit for each four bits of an address
 abbrev pub address_text : Parts → ℕ → List ℕ
@@ -50,8 +50,8 @@ is_word_byte c =
 abbrev pub IsSymbol : Parts → Symbol → Type 0
 IsSymbol d symbol = (0 < length symbol.name) × IsTrue (list_all is_word_byte symbol.name) × (symbol.at < 2 ^ d.pc.width)
 
--- what a spelled image keeps: addresses below 2 ^ W, a base on a word's boundary, and code and data that end
--- at 2 ^ W at most, and symbols
+-- what a spelled image keeps: addresses below 2 ^ W, a base on a word's boundary, words and bytes of their widths, code and
+-- data that end at 2 ^ W at most, and symbols
 pub record IsImage (d : Parts) (i : Image) : Type 0 where
   pub aligned : i.base % word_bytes d ≡ 0
   pub base : i.base < 2 ^ d.pc.width
@@ -61,5 +61,6 @@ pub record IsImage (d : Parts) (i : Image) : Type 0 where
   pub data_base : i.data_base < 2 ^ d.pc.width
   pub words : All (λ word. word < 2 ^ d.word) i.code
   pub code_end : i.base + word_bytes d * length i.code ≤ 2 ^ d.pc.width
+  pub bytes : All (λ byte. byte < 256) i.bytes
   pub data_end : i.data_base + length i.bytes ≤ 2 ^ d.pc.width
   pub symbols : All (IsSymbol d) i.symbols

@@ -1,8 +1,9 @@
 -- The state of a machine: what it reads, and how a write changes it.
-use Rattle.std.specs.Prelude.{ℕ, zero, suc, ◌+◌, ◌/◌, ◌%◌, ◌^◌, Bool, false, nat_eq, List, [], ◌∷◌, map, replicate, Option, Some, None, slice_get, slice_set, slice_index, unwrap_or, if◌then◌else◌}
+use Rattle.std.specs.Prelude.{◌≡◌, ℕ, zero, suc, ◌+◌, ◌/◌, ◌%◌, ◌^◌, ◌<◌, Bool, true, false, ◌&&◌, IsTrue, nat_eq, List, [], ◌∷◌, length, map, replicate, Option, Some, None, slice_get, slice_set, slice_index, unwrap_or, if◌then◌else◌}
 use Rattle.std.specs.Option.{option_map_or}
+use Rattle.std.specs.List.{list_all}
 use Rattle.std.specs.Ordering.{nat_cmp}
-use Rattle.std.specs.FinMap.{FinMap, empty, get, insert}
+use Rattle.std.specs.FinMap.{FinMap, empty, get, insert, remove}
 use Rattle.vg_bits.specs.BitValue.{BitValue}
 use Rattle.vg_isa.specs.declared.isa.Parts.{Parts}
 use Rattle.vg_isa.specs.declared.instr.Instr.{Instr}
@@ -11,12 +12,13 @@ use Rattle.vg_isa.specs.declared.write_made.Made.{Made}
 use Rattle.vg_isa.specs.declared.ids.ResourceId.{ResourceId}
 use Rattle.vg_isa.specs.declared.ids.ResourceId.TheVariants.{Memory, Reg}
 use Rattle.vg_isa.specs.Declaration.{register_width, register_count}
+use Rattle.vg_isa.specs.Typing.{fits}
 use Rattle.vg_isa.specs.Value.{Reads}
 use Rattle.vg_isa.specs.Effect.{effect_of, next_pc_of}
 use Rattle.vg_image.specs.declared.image.Image.{Image}
 
--- A state has a program counter, for each declaration the numbers of its registers, and the bytes that
--- were stored, by their addresses. A byte that was not stored is 0.
+-- A state has a program counter, for each declaration the numbers of its registers, and the bytes of memory that aren't
+-- 0, by their addresses.
 pub record State : Type 0 where
   pub pc : ℕ
   pub registers : List (List ℕ)
@@ -50,10 +52,19 @@ reads_of d s = record {
 
 -- ---- writing
 
+-- a byte stored at an address; a 0 isn't kept
+abbrev pub put : FinMap nat_cmp ℕ → ℕ → ℕ → FinMap nat_cmp ℕ
+put m at byte = if nat_eq byte 0 then remove m at else insert m at byte
+
 -- so many bytes of a number from an address on, the least significant first, the addresses modulo space
 abbrev pub stored : ℕ → ℕ → ℕ → ℕ → FinMap nat_cmp ℕ → FinMap nat_cmp ℕ
 stored space at zero n m = m
-stored space at (suc bytes) n m = insert (stored space (at + 1) bytes (n / 256) m) (at % space) (n % 256)
+stored space at (suc bytes) n m = put (stored space (at + 1) bytes (n / 256) m) (at % space) (n % 256)
+
+-- bytes from an address on, laid over others
+abbrev pub laid : ℕ → List ℕ → FinMap nat_cmp ℕ → FinMap nat_cmp ℕ
+laid at [] m = m
+laid at (byte ∷ bytes) m = put (laid (at + 1) bytes m) at byte
 
 -- a write of the zero register does nothing
 abbrev pub register_written : Parts → ℕ → ℕ → ℕ → State → State
@@ -82,15 +93,35 @@ state_after d instr word s =
 
 -- ---- the first state
 
--- bytes from an address on
-abbrev pub laid : ℕ → List ℕ → FinMap nat_cmp ℕ
-laid at [] = empty
-laid at (byte ∷ bytes) = insert (laid (at + 1) bytes) at byte
-
 -- all registers are 0, and memory has the image's data
 abbrev pub first_state : Parts → Image → State
 first_state d i = record {
   pc = i.entry;
   registers = map (λ (decl : RegDecl). replicate (register_count decl) 0) d.regs;
-  bytes = laid i.data_base i.bytes;
+  bytes = laid i.data_base i.bytes empty;
 }
+
+-- ---- what a state keeps
+
+-- as many numbers as the declaration has registers, each below 2 to their width, and 0 at the register that reads as 0
+abbrev pub is_file_of : RegDecl → List ℕ → Bool
+is_file_of decl numbers =
+    nat_eq (length numbers) (register_count decl) && list_all (fits decl.width) numbers
+    && option_map_or (λ (z : ℕ). nat_eq (slice_index numbers z) 0) decl.zero true
+
+-- the numbers of each declaration
+abbrev pub are_files : List RegDecl → List (List ℕ) → Bool
+are_files [] [] = true
+are_files [] (numbers ∷ files) = false
+are_files (decl ∷ regs) [] = false
+are_files (decl ∷ regs) (numbers ∷ files) = is_file_of decl numbers && are_files regs files
+
+-- bytes that aren't 0, at addresses below space
+abbrev pub AreBytes : ℕ → FinMap nat_cmp ℕ → Type 0
+AreBytes space m = (at byte : ℕ) → get m at ≡ Some byte → (at < space) × (0 < byte) × (byte < 256)
+
+-- What a state of a description keeps. Two that read alike are one (law `same_reads`).
+pub record IsState (d : Parts) (s : State) : Type 0 where
+  pub pc : s.pc < 2 ^ d.pc.width
+  pub files : IsTrue (are_files d.regs s.registers)
+  pub bytes : AreBytes (2 ^ d.pc.width) s.bytes

@@ -2,20 +2,17 @@
 use Rattle.std.specs.Prelude.{ℕ, ◌-◌, ◌/◌, ◌%◌, ◌&&◌, nat_eq, nat_le, Option, Some, None, slice_get, if◌then◌else◌}
 use Rattle.vg_isa.specs.declared.isa.Parts.{Parts}
 use Rattle.vg_isa.specs.declared.instr.Instr.{Instr}
+use Rattle.vg_isa.specs.Declaration.{word_bytes}
+use Rattle.vg_format.specs.Matching.{decoded}
 use Rattle.vg_image.specs.declared.image.Image.{Image}
 use Rattle.vg_image.specs.declared.ending.Ending.{Ending}
 use Rattle.vg_image.specs.declared.ending.Ending.TheVariants.{End, StackEnd, OutOfCode, Illegal}
-use Rattle.vg_image.specs.Decoding.{decoded}
 use Rattle.vg_image.specs.State.{State, state_after}
 
 -- a step moves to a state, or the run is over
 pub data Step : Type 0 where
   Moved : State → Step
   Over : Ending → Step
-
--- the bytes of an instruction word
-abbrev pub word_bytes : Parts → ℕ
-word_bytes d = d.word / 8
 
 -- the code word at an address: the k-th stands at base + k * the bytes of a word
 abbrev pub word_at : Parts → Image → ℕ → Option ℕ

@@ -35,12 +35,14 @@
 mod ending;
 mod image;
 mod image_fault;
+mod laws;
 mod reader;
 mod refusal;
 
 pub use ending::Ending;
 pub use image::{Image, Symbol};
 pub use image_fault::ImageFault;
+pub use laws::{one_run, same_reads, states_are_kept};
 pub use reader::{one_image, read};
 
 #[cfg(test)]

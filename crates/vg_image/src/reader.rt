@@ -3,10 +3,10 @@
 ghost use Rattle.std.specs.Prelude.{◌≡◌, ◌+◌, ◌*◌, ◌/◌, ◌-◌, ◌<◌, ◌≤◌, ◌^◌, ℕ, List, [], ◌∷◌, IsTrue, IfOk, IfErr, is_some, codes};
 ghost use Rattle.std.specs.Option.{option_map};
 ghost use Rattle.vg_text.specs.Piece;
-ghost use Rattle.vg_isa.specs.Typing.{is_isa};
+ghost use Rattle.vg_isa.specs.Accepted.{is_isa};
+ghost use Rattle.vg_isa.specs.Declaration;
 ghost use Rattle.vg_isa.specs.declared.isa.Parts.{Parts};
 ghost use Rattle.vg_image.specs.declared.image.Image.{Image};
-ghost use Rattle.vg_image.specs.Step;
 ghost use Rattle.vg_image.specs.Reader;
 ghost use Rattle.vg_image.specs.Reading;
 ghost use Rattle.vg_image.specs.Reading.{IsSpelled, Refuses, IsRefusalOf, has_unbuilt_line};
@@ -77,23 +77,23 @@ fn address_digits(isa: &Isa) -> u8
     ensures value { result ≡ isa.now.pc.width / 4 }
     ensures most { result ≤ 16 }
 {
-    isa.parts().pc.width.bits() / 4
+    isa.pc().width.bits() / 4
 }
 
 /// The bytes of a code word.
 fn word_bytes(isa: &Isa) -> u8
-    ensures value { result ≡ Step.word_bytes isa.now }
-    ensures least { 0 < result }
+    ensures value { result ≡ Declaration.word_bytes isa.now }
+    ensures least { 2 ≤ result }
     ensures most { result ≤ 8 }
 {
-    isa.parts().word.bits() / 8
+    isa.word().bits() / 8
 }
 
 /// How many code words have room from the base on.
 fn room(isa: &Isa, base: u64) -> u64
     ensures { result ≡ Reader.room_of isa.now base }
 {
-    let space = 1u128 << isa.parts().pc.width.bits();
+    let space = 1u128 << isa.pc().width.bits();
     let left = space.saturating_sub(u128::from(base));
     (left / u128::from(word_bytes(isa))) as u64
 }

@@ -1,5 +1,5 @@
 ghost use Rattle.std.specs.Prelude.{IsTrue, ◌<◌, ◌≤◌};
-ghost use Rattle.vg_isa.specs.Typing.{is_machine_width};
+ghost use Rattle.vg_isa.specs.Accepted.{is_machine_width};
 
 use super::*;
 use sqlite_items::Items;
@@ -9,6 +9,7 @@ use vg_bits::Width;
 use vg_isa::{Isa, Parts, PcDecl};
 
 /// A description without instructions.
+#[tactic(auto, unfolding(vg_isa::specs::Accepted::is_isa))]
 fn description(alloc: Global, word: u8, address: u8) -> Result<Isa, AllocError>
     requires word { IsTrue (is_machine_width word) }
     requires address { IsTrue (is_machine_width address) }

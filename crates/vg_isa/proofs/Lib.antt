@@ -1,7 +1,11 @@
+pub mod Tests
+pub mod Kept
+pub mod Cover
 pub mod Fields
 pub mod Registers
-pub mod Tests
 pub mod Ranges
-pub mod Instructions
 pub mod TypingLemmas
 pub mod Writes
+pub mod NodeLemmas
+pub mod Lawful
+pub mod SameLemmas

@@ -9,6 +9,10 @@ use Rattle.vg_isa.specs.declared.declaration.RegDecl.{RegDecl}
 use Rattle.vg_isa.specs.declared.format.Format.{Format}
 use Rattle.vg_isa.specs.declared.format.FieldDecl.{FieldDecl}
 
+-- the bytes of an instruction word
+abbrev pub word_bytes : Parts → ℕ
+word_bytes d = d.word / 8
+
 -- how many bits the ranges have, each given by its high and its low bit
 abbrev pub bits_of : List (ℕ × ℕ) → ℕ
 bits_of ranges = sum_by (λ r. r.0 + 1 - r.1) ranges
@@ -30,9 +34,9 @@ field_of d f word = record { width = bits_of (ranges_of d f); number = bits_in (
 abbrev pub are_in_word : ℕ → List (ℕ × ℕ) → Bool
 are_in_word word ranges = list_all (λ r. nat_le r.1 r.0 && nat_lt r.0 word) ranges
 
--- the ranges of a field: one or more within the word, with no more bits than the word
+-- the ranges of a field: one or more within the word
 abbrev pub are_ranges : ℕ → List (ℕ × ℕ) → Bool
-are_ranges word ranges = nat_lt 0 (length ranges) && nat_le (bits_of ranges) word && are_in_word word ranges
+are_ranges word ranges = nat_lt 0 (length ranges) && are_in_word word ranges
 
 -- the description has this field
 abbrev pub has_field : Parts → FieldId → Bool

@@ -1,6 +1,6 @@
 -- What an instruction does: the writes that it makes, and the program counter after it. All reads see the
 -- state before the instruction.
-use Rattle.std.specs.Prelude.{ℕ, ◌/◌, List, Option, Some, None, slice_get, if◌then◌else◌}
+use Rattle.std.specs.Prelude.{ℕ, List, Option, Some, None, slice_get, if◌then◌else◌}
 use Rattle.std.specs.Option.{option_and_then, option_map, option_map_or}
 use Rattle.std.specs.List.{filter_map}
 use Rattle.vg_bits.specs.BitValue.{BitValue}
@@ -9,6 +9,7 @@ use Rattle.vg_isa.specs.declared.isa.Parts.{Parts}
 use Rattle.vg_isa.specs.declared.instr.Instr.{Instr}
 use Rattle.vg_isa.specs.declared.instr.Write.{Write}
 use Rattle.vg_isa.specs.declared.write_made.Made.{Made}
+use Rattle.vg_isa.specs.Declaration.{word_bytes}
 use Rattle.vg_isa.specs.Value.{Reads, value_of, holds}
 
 -- the write that is made, where its guard holds
@@ -28,7 +29,7 @@ effect_of d instr word s = filter_map (λ write. made_by d write word s) instr.w
 
 -- the address after an instruction's own
 abbrev pub following : Parts → Reads → BitValue
-following d s = bits.add s.pc (record { width = d.pc.width; number = d.word / 8 })
+following d s = bits.add s.pc (record { width = d.pc.width; number = word_bytes d })
 
 -- the program counter after an instruction: what is written to it where its guard holds, else the address
 -- after its own

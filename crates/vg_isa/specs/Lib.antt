@@ -1,4 +1,9 @@
 pub mod Declaration
 pub mod Typing
+pub mod Node
+pub mod Same
+pub mod Abi
+pub mod Micro
+pub mod Accepted
 pub mod Value
 pub mod Effect

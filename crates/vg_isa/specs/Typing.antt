@@ -1,7 +1,5 @@
 -- Widths: each operand has the width that its place needs.
-use Rattle.std.specs.Prelude.{ℕ, ◌+◌, ◌*◌, ◌-◌, ◌%◌, Bool, true, false, ◌&&◌, ◌||◌, nat_eq, nat_le, nat_lt, Option, Some, None}
-use Rattle.std.specs.Option.{option_map_or}
-use Rattle.std.specs.List.{list_all}
+use Rattle.std.specs.Prelude.{ℕ, ◌+◌, ◌*◌, ◌-◌, ◌%◌, ◌^◌, Bool, true, false, ◌&&◌, nat_eq, nat_le, nat_lt, Option, Some, None}
 use Rattle.vg_bits.specs.BitValue.{BitValue}
 use Rattle.vg_isa.specs.declared.isa.Parts.{Parts}
 use Rattle.vg_isa.specs.declared.expr.Expr.{Expr, fold-Expr}
@@ -14,16 +12,20 @@ use Rattle.vg_isa.specs.declared.ids.ResourceId.{ResourceId}
 use Rattle.vg_isa.specs.declared.ids.ResourceId.TheVariants.{Memory, Reg}
 use Rattle.vg_isa.specs.declared.instr.Write.{Write}
 use Rattle.vg_isa.specs.declared.write_made.Made.{Made}
-use Rattle.vg_isa.specs.declared.instr.Instr.{Instr}
-use Rattle.vg_isa.specs.declared.format.Format.{Format}
-use Rattle.vg_isa.specs.declared.format.FieldDecl.{FieldDecl}
-use Rattle.vg_isa.specs.declared.declaration.RegDecl.{RegDecl}
-use Rattle.vg_isa.specs.Declaration.{bits_of, ranges_of, are_ranges, has_field, register_width, register_count, is_single, is_file}
+use Rattle.vg_isa.specs.Declaration.{bits_of, ranges_of, has_field, register_width, is_single, is_file}
 
 -- a tree's width, and whether each operand in it has the width that its place needs
 pub record Typing : Type 0 where
   pub width : ℕ
   pub is_typed : Bool
+
+-- a width of values
+abbrev pub is_width : ℕ → Bool
+is_width n = nat_le 1 n && nat_le n 128
+
+-- a number of this width is below 2 to it
+abbrev pub fits : ℕ → ℕ → Bool
+fits width number = nat_lt number (2 ^ width)
 
 -- an operator's result at the widths of its operands
 abbrev pub binary_width : BinOp → ℕ → ℕ
@@ -50,7 +52,7 @@ cast_fits Keep width a = nat_eq a width
 
 -- one level of a tree, with the typing of each child
 abbrev pub typing_step : Parts → Expr-F Typing → Typing
-typing_step d (Expr-F.Const b) = record { width = b.width; is_typed = true }
+typing_step d (Expr-F.Const b) = record { width = b.width; is_typed = is_width b.width && fits b.width b.number }
 typing_step d (Expr-F.Field f) = record { width = bits_of (ranges_of d f); is_typed = has_field d f }
 typing_step d Expr-F.Pc = record { width = d.pc.width; is_typed = true }
 typing_step d (Expr-F.Reg r None) = record { width = register_width d.regs r.0; is_typed = is_single d.regs r.0 }
@@ -58,7 +60,7 @@ typing_step d (Expr-F.Reg r (Some i)) = record { width = register_width d.regs r
 typing_step d (Expr-F.Mem a bytes) = record { width = 8 * bytes; is_typed = a.is_typed && nat_eq a.width d.pc.width && nat_lt 0 bytes && nat_le bytes 16 }
 typing_step d (Expr-F.Unary op a) = a
 typing_step d (Expr-F.Binary op a b) = record { width = binary_width op a.width; is_typed = a.is_typed && b.is_typed && binary_fits op a.width b.width }
-typing_step d (Expr-F.Cast op width a) = record { width = width; is_typed = a.is_typed && cast_fits op width a.width }
+typing_step d (Expr-F.Cast op width a) = record { width = width; is_typed = a.is_typed && is_width width && cast_fits op width a.width }
 typing_step d (Expr-F.Slice a hi lo) = record { width = hi + 1 - lo; is_typed = a.is_typed && nat_le lo hi && nat_lt hi a.width }
 typing_step d (Expr-F.Join a b) = record { width = a.width + b.width; is_typed = a.is_typed && b.is_typed && nat_le (a.width + b.width) 128 }
 typing_step d (Expr-F.If c a b) = record { width = a.width; is_typed = c.is_typed && a.is_typed && b.is_typed && nat_eq c.width 1 && nat_eq a.width b.width }
@@ -99,30 +101,3 @@ is_made_of d (Reg r) None value = is_single d.regs r.0 && nat_eq value.width (re
 
 abbrev pub is_made : Parts → Made → Bool
 is_made d made = is_made_of d made.resource made.at made.value
-
--- the encoding fixes fields of the description at their widths, and the trees are typed
-abbrev pub is_instr : Parts → Instr → Bool
-is_instr d instr =
-    list_all (λ fix. has_field d fix.0 && nat_eq (bits_of (ranges_of d fix.0)) fix.1.width) instr.fixed
-    && list_all (is_write d) instr.writes
-    && option_map_or (λ next. has_width d 1 next.0 && has_width d d.pc.width next.1) instr.next true
-
-abbrev pub is_machine_width : ℕ → Bool
-is_machine_width n = nat_eq n 16 || nat_eq n 32 || nat_eq n 64
-
-abbrev pub is_register_decl : RegDecl → Bool
-is_register_decl decl =
-    option_map_or (λ (w : ℕ). nat_le w 6) decl.index true
-    && option_map_or (λ (z : ℕ). nat_lt z (register_count decl)) decl.zero true
-
-abbrev pub is_format : ℕ → Format → Bool
-is_format word format = list_all (λ (field : FieldDecl). are_ranges word field.ranges) format.fields
-
--- What an accepted description keeps: machine widths, small register files, fields within the word, and
--- operands of the widths that their places need.
-abbrev pub is_isa : Parts → Bool
-is_isa d =
-    is_machine_width d.word && is_machine_width d.pc.width
-    && list_all is_register_decl d.regs
-    && list_all (is_format d.word) d.formats
-    && list_all (is_instr d) d.instrs

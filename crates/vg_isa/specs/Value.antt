@@ -1,6 +1,6 @@
 -- The value of a tree for an instruction word, in a state.
-use Rattle.std.specs.Prelude.{◌≡◌, ℕ, zero, suc, ◌+◌, ◌*◌, ◌%◌, ◌^◌, ◌<◌, Bool, nat_eq, length, Some, None, if◌then◌else◌}
-use Rattle.vg_bits.specs.BitValue.{BitValue}
+use Rattle.std.specs.Prelude.{◌≡◌, ◌≢◌, ℕ, zero, suc, ◌+◌, ◌*◌, ◌%◌, ◌^◌, ◌<◌, ◌≤◌, Bool, IsTrue, nat_eq, length, Option, Some, None, if◌then◌else◌}
+use Rattle.vg_bits.specs.BitValue.{BitValue, IsBitValue}
 use Rattle.vg_bits.specs.BitValue as bits
 use Rattle.vg_isa.specs.declared.isa.Parts.{Parts}
 use Rattle.vg_isa.specs.declared.expr.Expr.{Expr, fold-Expr}
@@ -11,7 +11,7 @@ use Rattle.vg_isa.specs.declared.operator.BinOp.{BinOp}
 use Rattle.vg_isa.specs.declared.operator.BinOp.TheVariants as binop
 use Rattle.vg_isa.specs.declared.operator.CastOp.{CastOp}
 use Rattle.vg_isa.specs.declared.operator.CastOp.TheVariants.{Extend, SignExtend, Cut, Keep}
-use Rattle.vg_isa.specs.Declaration.{field_of, register_width}
+use Rattle.vg_isa.specs.Declaration.{field_of, has_register, register_width}
 
 -- What a state reads: the program counter, each register of a declaration at its index, and each byte of
 -- memory at its address.
@@ -25,9 +25,9 @@ abbrev pub loaded : (ℕ → ℕ) → ℕ → ℕ → ℕ → ℕ
 loaded byte space at zero = 0
 loaded byte space at (suc bytes) = byte (at % space) + 256 * loaded byte space (at + 1) bytes
 
--- so many bytes of memory at an address
-abbrev pub memory_value : (ℕ → ℕ) → BitValue → ℕ → BitValue
-memory_value byte at bytes = record { width = 8 * bytes; number = loaded byte (2 ^ at.width) at.number bytes }
+-- so many bytes of memory at an address, where addresses have this width
+abbrev pub memory_value : (ℕ → ℕ) → ℕ → BitValue → ℕ → BitValue
+memory_value byte width at bytes = record { width = 8 * bytes; number = loaded byte (2 ^ width) at.number bytes }
 
 -- a Bool as a bit value
 abbrev pub flag : Bool → BitValue
@@ -73,7 +73,7 @@ value_step d word s (Expr-F.Field f) = field_of d f word
 value_step d word s Expr-F.Pc = s.pc
 value_step d word s (Expr-F.Reg r None) = s.reg r.0 0
 value_step d word s (Expr-F.Reg r (Some i)) = s.reg r.0 i.number
-value_step d word s (Expr-F.Mem a bytes) = memory_value s.byte a bytes
+value_step d word s (Expr-F.Mem a bytes) = memory_value s.byte d.pc.width a bytes
 value_step d word s (Expr-F.Unary op a) = unary_value op a
 value_step d word s (Expr-F.Binary op a b) = binary_value op a b
 value_step d word s (Expr-F.Cast op width a) = cast_value op width a
@@ -85,7 +85,32 @@ value_step d word s (Expr-F.If c a b) = if holds c then a else b
 abbrev pub value_of : Parts → Expr → ℕ → Reads → BitValue
 value_of d e word s = fold-Expr BitValue (value_step d word s) e
 
+-- ---- what states read
+
 -- a state reads values of the declared widths
 pub record HasDeclaredWidths (d : Parts) (s : Reads) : Type 0 where
   pub pc : s.pc.width ≡ d.pc.width
   pub reg : (r i : ℕ) → r < length d.regs → (s.reg r i).width ≡ register_width d.regs r
+
+-- a state reads bit values of the declared widths, and bytes
+pub record IsLawful (d : Parts) (s : Reads) : Type 0 where
+  pub widths : HasDeclaredWidths d s
+  pub pc : s.pc.number < 2 ^ d.pc.width
+  pub reg : (r i : ℕ) → IsTrue (has_register d.regs r i) → (s.reg r i).number < 2 ^ register_width d.regs r
+  pub byte : (at : ℕ) → at < 2 ^ d.pc.width → s.byte at < 256
+
+-- a bit value of this width
+pub record IsValue (width : ℕ) (v : BitValue) : Type 0 where
+  pub value : IsBitValue v
+  pub width_is : v.width ≡ width
+
+-- two states read alike: at each register of the description, and at each address
+pub record ReadAlike (d : Parts) (s t : Reads) : Type 0 where
+  pub pc : s.pc ≡ t.pc
+  pub reg : (r i : ℕ) → IsTrue (has_register d.regs r i) → s.reg r i ≡ t.reg r i
+  pub byte : (at : ℕ) → at < 2 ^ d.pc.width → s.byte at ≡ t.byte at
+
+-- the least address from one on whose byte isn't 0; None where there is none
+abbrev pub IsNextSet : (ℕ → ℕ) → ℕ → Option ℕ → Type 0
+IsNextSet byte from None = (at : ℕ) → from ≤ at → byte at ≡ 0
+IsNextSet byte from (Some at) = (from ≤ at) × (byte at ≢ 0) × ((k : ℕ) → from ≤ k → k < at → byte k ≡ 0)

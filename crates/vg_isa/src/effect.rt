@@ -1,5 +1,6 @@
 ghost use Rattle.std.specs.Prelude.{◌≡◌, ◌<◌, IsTrue, length, slice_get, IfSome};
-ghost use Rattle.vg_isa.specs.Typing.{is_instr, is_made, is_typed, is_write, is_write_of, width_of};
+ghost use Rattle.vg_isa.specs.Accepted.{is_instr};
+ghost use Rattle.vg_isa.specs.Typing.{is_made, is_typed, is_write, is_write_of, width_of};
 ghost use Rattle.vg_isa.specs.Value.{HasDeclaredWidths, value_of};
 ghost use Rattle.vg_isa.specs.Effect.{made_by, made_of, next_pc_of, following};
 ghost use Rattle.std.specs.Option.{option_map, ForSome};
@@ -64,6 +65,7 @@ pub fn made<V: View>(isa: &Isa, i: InstrId, k: usize, word: Bits, v: &V) -> Opti
 }
 
 /// The address of the word behind the instruction's own, modulo the size of the address space.
+#[tactic(auto, using(crate::proofs::Kept::step_fits))]
 fn next_address<V: View>(isa: &Isa, v: &V) -> Bits
     requires widths { HasDeclaredWidths isa.now (V.reads v.now) }
     ensures { result ≡ following isa.now (V.reads v.now) }
@@ -75,6 +77,7 @@ fn next_address<V: View>(isa: &Isa, v: &V) -> Bits
 
 /// The program counter after an instruction of this description.
 #[inline(always)]
+#[tactic(auto, unfolding(crate::specs::Accepted::is_instr))]
 pub fn next_of<V: View>(isa: &Isa, instr: &Instr, word: Bits, v: &V) -> Bits
     requires instr { IsTrue (is_instr isa.now instr.now) }
     requires word { word.width ≡ isa.now.word }

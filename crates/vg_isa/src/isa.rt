@@ -41,7 +41,7 @@ impl Model for Isa {
 
     ghost coded = { Prim.hlevel (codes, parts_type.the_row.coded) };
 
-    ghost use Rattle.vg_isa.specs.Typing.{is_isa};
+    ghost use Rattle.vg_isa.specs.Accepted.{is_isa};
 
     ghost view = { λ isa. isa.parts };
 
@@ -50,7 +50,9 @@ impl Model for Isa {
 
 impl Isa {
     ghost use Rattle.std.specs.Prelude.{◌≡◌, ◌<◌, IsTrue, length, slice_get, Some};
-    ghost use Rattle.vg_isa.specs.Typing.{is_instr, is_isa};
+    ghost use Rattle.std.specs.List.{list_all};
+    ghost use Rattle.std.specs.Option.{option_copied};
+    ghost use Rattle.vg_isa.specs.Accepted.{is_format, is_instr, is_isa, is_machine_width, is_register_decl};
 
     /// A description of these parts.
     pub fn new(parts: Parts) -> Isa
@@ -58,6 +60,68 @@ impl Isa {
         ensures { result ≡ parts }
     {
         Isa { parts }
+    }
+
+    /// Its parts.
+    pub fn parts(&self) -> &Parts
+        ensures same { result.now ≡ self.now }
+        ensures typed { IsTrue (is_isa self.now) }
+    {
+        &self.parts
+    }
+
+    /// The name of the architecture.
+    pub fn name(&self) -> &[u8]
+        ensures { result.now ≡ self.now.name }
+    {
+        self.parts.name.as_slice()
+    }
+
+    /// The width of the instruction words.
+    pub fn word(&self) -> Width
+        ensures value { result ≡ self.now.word }
+        ensures machine { IsTrue (is_machine_width result) }
+    {
+        self.parts.word
+    }
+
+    /// The program counter, whose width is that of an address.
+    pub fn pc(&self) -> &PcDecl
+        ensures value { result.now ≡ self.now.pc }
+        ensures machine { IsTrue (is_machine_width result.now.width) }
+    {
+        &self.parts.pc
+    }
+
+    /// The name of the memory.
+    pub fn memory(&self) -> &[u8]
+        ensures { result.now ≡ self.now.memory }
+    {
+        self.parts.memory.as_slice()
+    }
+
+    /// The single registers and register files.
+    pub fn regs(&self) -> &[RegDecl]
+        ensures value { result.now ≡ self.now.regs }
+        ensures declared { IsTrue (list_all is_register_decl result.now) }
+    {
+        self.parts.regs.as_slice()
+    }
+
+    /// The formats of instruction words.
+    pub fn formats(&self) -> &[Format]
+        ensures value { result.now ≡ self.now.formats }
+        ensures covered { IsTrue (list_all (is_format self.now.word) result.now) }
+    {
+        self.parts.formats.as_slice()
+    }
+
+    /// The instructions.
+    pub fn instrs(&self) -> &[Instr]
+        ensures value { result.now ≡ self.now.instrs }
+        ensures typed { IsTrue (list_all (is_instr self.now) result.now) }
+    {
+        self.parts.instrs.as_slice()
     }
 
     /// An instruction.
@@ -72,11 +136,17 @@ impl Isa {
         }
     }
 
-    /// Its parts.
-    pub fn parts(&self) -> &Parts
-        ensures same { result.now ≡ self.now }
-        ensures typed { IsTrue (is_isa self.now) }
+    /// The application binary interface, where the description has one.
+    pub fn abi(&self) -> Option<&Abi>
+        ensures { option_copied result ≡ self.now.abi }
     {
-        &self.parts
+        self.parts.abi.as_ref()
+    }
+
+    /// The micro architecture, where the description has one.
+    pub fn micro(&self) -> Option<&Micro>
+        ensures { option_copied result ≡ self.now.micro }
+    {
+        self.parts.micro.as_ref()
     }
 }

@@ -10,11 +10,16 @@
 //!
 //! **What is proved.** Each of the three gives exactly the value that `specs/` defines by recursion on
 //! the tree with the formulas of `vg_bits`: `value_of`, `made_of` and `next_pc_of`. An [`Isa`] keeps in its
-//! type that every operand in its trees has the width that its place needs (`is_isa`), so no evaluator
-//! has an error among its answers.
+//! type what an accepted description keeps (`is_isa` of `specs/Accepted.antt`): every operand in its trees
+//! has the width that its place needs, so no evaluator has an error among its answers; fields, writes, reads
+//! of memory, the binary interface and the stages keep their rules; and it is within the limits below. Laws:
+//! the value of a typed tree in a lawful state is a bit value of its width ([`values_have_widths`]); the
+//! test for equal trees tells exactly that ([`same_trees`]).
 //!
-//! **Limits.** Trees come from texts of bounded depth, so evaluation recurses on them. At most 64 bits a
-//! word, 128 bits a value, 64 registers a file.
+//! **Limits.** At most 512 instructions, 64 formats, 16 resources with the memory, 64 registers a file, 64
+//! bits a word, 128 bits a value. A behaviour has at most 4,096 nodes as written; the trees of an [`Isa`] may
+//! have more, since each write has a copy of the conditions that it stands under, and a rewritten comparison
+//! adds a complement. Evaluation recurses on a tree.
 //!
 //! ```text
 //! let sum = eval(&isa, &tree, word, &machine);   // the value of the tree for this word in this state
@@ -30,6 +35,7 @@ mod format;
 mod ids;
 mod instr;
 mod isa;
+mod laws;
 mod operator;
 mod view;
 mod word_field;
@@ -44,6 +50,7 @@ pub use format::{FieldDecl, Format};
 pub use ids::{FieldId, FormatId, InstrId, RegId, ResourceId};
 pub use instr::{Instr, Part, Write};
 pub use isa::{Isa, Parts};
+pub use laws::{same_trees, values_have_widths};
 pub use operator::{BinOp, CastOp, UnOp};
 use sqlite_items::Items;
 pub use view::View;

@@ -23,9 +23,11 @@ pub trait View {
         requires { IsTrue (has_register (registers self.now) r.0 i) }
         ensures { result ≡ (reads self.now).reg r.0 i };
 
-    /// So many bytes of memory from an address on, the least significant first.
+    /// So many bytes of memory from an address on, the least significant first; the addresses are taken
+    /// modulo 2 to the width of the program counter.
     fn mem(&self, at: Bits, bytes: u8) -> Bits
+        requires address { at.width ≡ (reads self.now).pc.width }
         requires some { 0 < bytes }
         requires few { bytes ≤ 16 }
-        ensures { result ≡ memory_value (reads self.now).byte at bytes };
+        ensures { result ≡ memory_value (reads self.now).byte (reads self.now).pc.width at bytes };
 }

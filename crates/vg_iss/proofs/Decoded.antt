@@ -5,7 +5,7 @@ use Rattle.std.specs.Option.{option_and_then}
 use Rattle.std.proofs.lemmas.Bool.Decides.{nat_tests}
 use Rattle.vg_isa.specs.declared.isa.Parts.{Parts}
 use Rattle.vg_image.specs.State.{State}
-use Rattle.vg_image.specs.Decoding.{matches, decoded}
+use Rattle.vg_format.specs.Matching.{matches, decoded}
 use Rattle.vg_image.specs.declared.image.Image.{Image}
 use Rattle.vg_image.specs.declared.ending.Ending.TheVariants.{End, StackEnd}
 use Rattle.vg_image.specs.Step.{Over, instr_step, executed, word_at, word_step, step_of}

@@ -6,16 +6,17 @@ use Rattle.vg_isa.specs.declared.isa.Parts.{Parts}
 use Rattle.vg_isa.specs.declared.ids.ResourceId.{ResourceId}
 use Rattle.vg_isa.specs.declared.ids.ResourceId.TheVariants.{Reg}
 use Rattle.vg_isa.specs.declared.ids.RegId.{RegId}
-use Rattle.vg_isa.specs.Typing.{is_isa, is_machine_width, is_made_of}
+use Rattle.vg_isa.specs.Accepted.{is_isa, is_machine_width}
+use Rattle.vg_isa.specs.Typing.{is_made_of}
 use Rattle.vg_isa.proofs.Registers.{index_below}
 use Rattle.vg_isa.proofs.Tests.{both}
-use Rattle.vg_isa.proofs.Fields.{machine_width_most}
+use Rattle.vg_isa.proofs.Kept.{kept, machine_width_most}
 
 two_positive : 0 < 2
 two_positive = omega arith
 
 pc_machine : (d : Parts) → IsTrue (is_isa d) → IsTrue (is_machine_width d.pc.width)
-pc_machine d h = (both _ _ (both _ _ (both _ _ (both _ _ h).0).0).0).1
+pc_machine d h = (kept d h).address
 
 -- an address is below 2 ^ 64
 pub address_below : (d : Parts) (w n : ℕ) → IsTrue (is_isa d) → w ≡ d.pc.width → n < 2 ^ w → n < 2 ^ 64

@@ -1,13 +1,17 @@
 -- Code words, and bytes that weren't stored.
-use Rattle.std.proofs.Common.{◌≡◌, ℕ, zero, suc, ◌+◌, ◌-◌, ◌/◌, ◌%◌, ◌<◌, ◌^◌, Bool, true, false, List, All, IsTrue, nat_lt, Some, None, Option, arith, refl, if◌then◌else◌}
+use Rattle.std.proofs.Common.{◌≡◌, ℕ, zero, suc, ap, unwrap_or, ◌+◌, ◌-◌, ◌/◌, ◌%◌, ◌<◌, ◌^◌, Bool, true, false, List, All, IsTrue, nat_lt, Some, None, Option, arith, refl, if◌then◌else◌}
+use Rattle.std.specs.Ordering.{nat_cmp}
+use Rattle.std.specs.FinMap.{empty, get-empty}
 use Rattle.std.proofs.lemmas.List.Sums.{list_all-from_AllPass}
 use Rattle.vg_isa.specs.declared.isa.Parts.{Parts}
 use Rattle.vg_isa.specs.Value.{loaded}
 use Rattle.vg_isa.proofs.Tests.{list_all-slice_get}
 use Rattle.vg_image.specs.declared.image.Image.{Image}
-use Rattle.vg_image.specs.Step.{word_at, word_bytes}
+use Rattle.vg_isa.specs.Declaration.{word_bytes}
+use Rattle.vg_image.specs.State.{byte_at}
+use Rattle.vg_image.specs.Step.{word_at}
 use Rattle.vg_iss.specs.Kept.{are_words}
-use Rattle.vg_iss.proofs.Files.{nat_lt-true, true-nat_lt}
+use Rattle.vg_isa.proofs.Tests.{nat_lt-true, true-nat_lt}
 
 some_of_if : (b : Bool) (o : Option ℕ) (word : ℕ) → (if b then o else None) ≡ Some word → o ≡ Some word
 some_of_if true o word h = h
@@ -26,3 +30,7 @@ words_below width code h = list_all-from_AllPass (λ (word : ℕ). nat_lt word (
 pub loaded_zero : (byte : ℕ → ℕ) (space at n : ℕ) → ((a : ℕ) → byte a ≡ 0) → loaded byte space at n ≡ 0
 loaded_zero byte space at zero h = refl
 loaded_zero byte space at (suc n) h = omega (arith, h (at % space), loaded_zero byte space (at + 1) n h)
+
+-- where nothing is stored each byte is 0
+pub no_byte : (pc : ℕ) (registers : List (List ℕ)) (at : ℕ) → byte_at (record { pc = pc; registers = registers; bytes = empty }) at ≡ 0
+no_byte pc registers at = ap (λ (o : Option ℕ). unwrap_or o 0) (get-empty nat_cmp at)

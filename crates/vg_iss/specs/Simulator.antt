@@ -1,5 +1,5 @@
 -- The state that a simulator stands for, and what its answers say of a step and of a run.
-use Rattle.std.specs.Prelude.{◌≡◌, ℕ, Option}
+use Rattle.std.specs.Prelude.{◌≡◌, ◌⊎◌, ◌<◌, ℕ, Some}
 use Rattle.std.specs.Option.{option_map}
 use Rattle.std.specs.FinMap.{empty}
 use Rattle.vg_isa.specs.declared.isa.Parts.{Parts}
@@ -8,7 +8,7 @@ use Rattle.vg_image.specs.declared.ending.Ending.{Ending}
 use Rattle.vg_image.specs.declared.ending.Ending.TheVariants as ending
 use Rattle.vg_image.specs.State.{State}
 use Rattle.vg_image.specs.Step.{Step, Moved, Over}
-use Rattle.vg_image.specs.Run.{IsRun}
+use Rattle.vg_image.specs.Run.{Stand, Steps, run_of}
 use Rattle.vg_iss.specs.declared.iss.Iss.{Iss}
 use Rattle.vg_iss.specs.declared.stepped.Stepped.{Stepped}
 use Rattle.vg_iss.specs.declared.stepped.Stepped.TheVariants as stepped
@@ -43,13 +43,22 @@ abbrev pub answer_of : Step → Stepped
 answer_of (Moved t) = stepped.Moved
 answer_of (Over e) = stepped_of e
 
--- the state behind a step; it stays where the step doesn't move
-abbrev pub state_behind : Step → State → State
-state_behind (Moved t) s = t
-state_behind (Over e) s = s
+-- a run's steps and its end
+abbrev pub ran_of : Stand → Ran
+ran_of r = record { end = option_map stepped_of r.ending; done = r.done }
 
--- a run of at most so many steps from a state did so many and ended so, in its last state
-pub record IsRan (d : Parts) (i : Image) (bound : ℕ) (first last : State) (ran : Ran) : Type 0 where
-  pub ending : Option Ending
-  pub run : IsRun d i bound first (record { done = ran.done; state = last; ending = ending })
-  pub end : ran.end ≡ option_map stepped_of ending
+-- the run itself
+pub record IsRunOf (d : Parts) (i : Image) (bound : ℕ) (first last : State) (ran : Ran) : Type 0 where
+  pub state : last ≡ (run_of d i bound first).state
+  pub answer : ran ≡ ran_of (run_of d i bound first)
+
+-- a run of at most so many steps found no memory for a store, behind these steps
+pub record LacksMemory (d : Parts) (i : Image) (bound : ℕ) (first last : State) (ran : Ran) : Type 0 where
+  pub steps : Steps d i ran.done first last
+  pub within : ran.done < bound
+  pub end : ran.end ≡ Some stepped.OutOfMemory
+
+-- What a run of at most so many steps from a state answers, and the state that it leaves: those of the run, or it found no
+-- memory.
+abbrev pub IsRan : Parts → Image → ℕ → State → State → Ran → Type 0
+IsRan d i bound first last ran = IsRunOf d i bound first last ran ⊎ LacksMemory d i bound first last ran

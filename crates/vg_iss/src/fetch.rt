@@ -27,7 +27,7 @@ fn words_in(distance: u64, bytes: u8) -> Option<u64>
 fn code_at(isa: &Isa, image: &Image, at: u64) -> Option<u64>
     ensures { result ≡ code_word_at isa.now image.now at }
 {
-    let bytes = isa.parts().word.bits() / 8;
+    let bytes = isa.word().bits() / 8;
     if at < image.base {
         return None;
     }
@@ -47,6 +47,6 @@ pub fn word_at(isa: &Isa, image: &Image, at: u64) -> Option<Bits>
 {
     match code_at(isa, image, at) {
         None => None,
-        Some(code) => Some(Bits::of(isa.parts().word, u128::from(code))),
+        Some(code) => Some(Bits::of(isa.word(), u128::from(code))),
     }
 }

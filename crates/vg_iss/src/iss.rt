@@ -1,5 +1,6 @@
 ghost use Rattle.std.specs.Prelude.{◌<◌, ◌^◌, IsTrue};
-ghost use Rattle.vg_iss.specs.Kept.{is_memory_free, are_words, are_numbers};
+ghost use Rattle.vg_image.specs.State.{are_files};
+ghost use Rattle.vg_iss.specs.Kept.{is_memory_free, are_words};
 
 use crate::decoding::decode;
 use crate::fetch::word_at;
@@ -23,7 +24,7 @@ pub struct Iss<'a> {
     ghost memory_free: { IsTrue (is_memory_free isa.now) },
     ghost words: { IsTrue (are_words isa.now.word image.now.code) },
     ghost address: { pc < 2 ^ isa.now.pc.width },
-    ghost numbers: { IsTrue (are_numbers isa.now.regs registers.items) },
+    ghost files: { IsTrue (are_files isa.now.regs registers.items) },
 }
 
 /// An instruction and its word.
@@ -34,20 +35,22 @@ struct Fetched<'a> {
 }
 
 impl<'a> Iss<'a> {
-    ghost use Rattle.std.specs.Prelude.{◌≡◌, ◌<◌, ◌^◌, [], drop, IsTrue, IfOk, IfSome, MatchResult};
+    ghost use Rattle.std.specs.Prelude.{◌≡◌, ◌<◌, ◌^◌, [], drop, IsTrue, IfOk, IfSome, MatchResult, Some};
     ghost use Rattle.std.specs.List.{filter_map, list_all};
     ghost use Rattle.vg_isa.specs.declared.write_made.Made.{Made as MadeWrite};
     ghost use Rattle.vg_isa.specs.Declaration.{has_register, register_width};
-    ghost use Rattle.vg_isa.specs.Typing.{is_instr, is_made, is_write};
-    ghost use Rattle.vg_isa.specs.Value.{Reads};
+    ghost use Rattle.vg_isa.specs.Accepted.{is_instr};
+    ghost use Rattle.vg_isa.specs.Typing.{is_made, is_write};
+    ghost use Rattle.vg_isa.specs.Value.{IsNextSet};
     ghost use Rattle.vg_isa.specs.Effect.{made_by, next_pc_of};
     ghost use Rattle.vg_image.specs.Spelling.{IsImage};
-    ghost use Rattle.vg_image.specs.State.{first_state, reads_of, register_written, resource_written, all_written, state_after};
+    ghost use Rattle.vg_image.specs.State.{IsState, are_files, first_state, reads_of, register_written, resource_written, all_written, state_after};
     ghost use Rattle.vg_image.specs.Step.{step_of, Moved, Over};
-    ghost use Rattle.vg_iss.specs.Kept.{is_memory_free, is_register, write_registers, are_numbers};
+    ghost use Rattle.vg_iss.specs.Kept.{is_memory_free, is_register, write_registers};
     ghost use Rattle.std.specs.Option.{option_map, option_map_or};
-    ghost use Rattle.vg_image.specs.Run.{ending_of};
-    ghost use Rattle.vg_iss.specs.Simulator.{description_of, image_of, state_of, stepped_of, RunsSame, answer_of, state_behind, IsRan};
+    ghost use Rattle.vg_image.specs.Run.{behind, ending_of};
+    ghost use Rattle.vg_iss.specs.declared.stepped.Stepped.TheVariants as Outcome;
+    ghost use Rattle.vg_iss.specs.Simulator.{description_of, image_of, state_of, stepped_of, RunsSame, answer_of, IsRan};
 
     /// The machine in the first state of the image.
     pub fn load(alloc: Global, isa: &'a Isa, image: &'a Image) -> Result<Iss<'a>, AllocError>
@@ -86,7 +89,7 @@ impl<'a> Iss<'a> {
     /// For each declaration the numbers of its registers.
     pub fn registers(&self) -> &[Items<u128>]
         ensures value { result.now ≡ (state_of self.now).registers }
-        ensures numbers { IsTrue (are_numbers (description_of self.now).regs result.now) }
+        ensures files { IsTrue (are_files (description_of self.now).regs result.now) }
     {
         self.registers.as_slice()
     }
@@ -97,12 +100,28 @@ impl<'a> Iss<'a> {
         requires { IsTrue (has_register (description_of self.now).regs r.0 i) }
         ensures { result ≡ (reads_of (description_of self.now) (state_of self.now)).reg r.0 i }
     {
-        let decl = &self.isa.parts().regs.as_slice()[r.0 as usize];
+        let decl = &self.isa.regs()[r.0 as usize];
         if is_zero(decl, i) {
             return Bits::of(decl.width, 0);
         }
         let numbers = self.registers[r.0 as usize].as_slice();
         Bits::of(decl.width, numbers[i as usize])
+    }
+
+    /// The byte of memory at an address.
+    pub fn byte(&self, at: u64) -> u8
+        ensures { result ≡ (reads_of (description_of self.now) (state_of self.now)).byte at }
+    {
+        let _ = at;
+        0
+    }
+
+    /// The least address not below `from` whose byte isn't 0; None where there is none.
+    pub fn next_set(&self, from: u64) -> Option<u64>
+        ensures { IsNextSet (reads_of (description_of self.now) (state_of self.now)).byte from result }
+    {
+        let _ = from;
+        None
     }
 
     /// Writes a register.
@@ -113,7 +132,7 @@ impl<'a> Iss<'a> {
         ensures state { state_of self.new ≡ register_written (description_of self.old) r.0 index value.number (state_of self.old) }
         ensures same { RunsSame self.old self.new }
     {
-        let decl = &self.isa.parts().regs.as_slice()[r.0 as usize];
+        let decl = &self.isa.regs()[r.0 as usize];
         if is_zero(decl, index) {
             return;
         }
@@ -175,6 +194,7 @@ impl<'a> Iss<'a> {
 
     /// Does an instruction.
     #[inline(always)]
+    #[tactic(auto, using(vg_isa::proofs::Kept::writes_typed))]
     fn execute(&mut self, instr: &Instr, word: Bits)
         requires instr { IsTrue (is_instr (description_of self.old) instr.now) }
         requires registers { IsTrue (write_registers instr.now.writes) }
@@ -217,7 +237,7 @@ impl<'a> Iss<'a> {
     #[inline(always)]
     pub fn step(&mut self) -> Stepped
         ensures answer { result ≡ answer_of (step_of (description_of self.old) (image_of self.old) (state_of self.old)) }
-        ensures state { state_of self.new ≡ state_behind (step_of (description_of self.old) (image_of self.old) (state_of self.old)) (state_of self.old) }
+        ensures state { state_of self.new ≡ behind (step_of (description_of self.old) (image_of self.old) (state_of self.old)) (state_of self.old) }
         ensures same { RunsSame self.old self.new }
     {
         match self.fetch() {
@@ -252,6 +272,7 @@ impl<'a> Iss<'a> {
     /// Does at most `n` steps, up to the first that doesn't move.
     pub fn run(&mut self, n: u64) -> Ran
         ensures run { IsRan (description_of self.old) (image_of self.old) n (state_of self.old) (state_of self.new) result }
+        ensures memory { result.end ≡ Some Outcome.OutOfMemory → ⊥ }
         ensures same { RunsSame self.old self.new }
     {
         let mut done = 0;
@@ -275,6 +296,7 @@ impl<'a> Iss<'a> {
 
 impl View for Iss<'_> {
     ghost use Rattle.vg_image.specs.State.{reads_of};
+    ghost use Rattle.vg_iss.specs.declared.stepped.Stepped.TheVariants as Outcome;
     ghost use Rattle.vg_iss.specs.Simulator.{description_of, state_of};
 
     ghost reads = { λ iss. reads_of (description_of iss) (state_of iss) };

@@ -3,7 +3,7 @@ ghost use Rattle.std.specs.Prelude.{◌≡◌, ◌≤◌, IfOk, IsTrue, map, nat
 ghost use Rattle.std.specs.Option.{option_map_or};
 ghost use Rattle.vg_isa.specs.declared.declaration.RegDecl.{RegDecl};
 ghost use Rattle.vg_isa.specs.Declaration.{register_count};
-ghost use Rattle.vg_isa.specs.Typing.{is_register_decl};
+ghost use Rattle.vg_isa.specs.Accepted.{is_register_decl};
 
 use sqlite_items::Items;
 use std::alloc::{AllocError, Global};
@@ -43,7 +43,7 @@ pub fn zero_files(alloc: Global, isa: &Isa) -> Result<Vec<Items<u128>>, AllocErr
     ensures { IfOk result (λ files. files.items ≡ map (λ (decl : RegDecl). replicate (register_count decl) 0) isa.now.regs) }
 {
     let mut files = Vec::new(alloc);
-    for decl in isa.parts().regs.as_slice() {
+    for decl in isa.regs() {
         files.push(zeros(alloc, count(decl))?)?;
     }
     Ok(files)

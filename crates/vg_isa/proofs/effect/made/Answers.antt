@@ -1,6 +1,6 @@
 use Rattle.std.proofs.Common.{ap, sym, ◌∙◌}
 use Rattle.std.specs.Option.{option_copied}
-use Rattle.vg_isa.proofs.Instructions.{write_typed}
+use Rattle.vg_isa.proofs.Kept.{write_typed}
 use Rattle.vg_isa.proofs.effect.made.Goals as goal
 
 pub make-requires-clause-write : goal.make-requires-clause-write

@@ -1,6 +1,6 @@
 use Rattle.std.proofs.Common.{◌≡◌, drop}
 use Rattle.std.specs.List.{find}
-use Rattle.vg_image.specs.Decoding.{matches}
+use Rattle.vg_format.specs.Matching.{matches}
 use Rattle.vg_iss.proofs.decoding.decode.Given as goal
 
 -- no instruction so far matches, so the first one from here on is the first of all

@@ -1,6 +1,6 @@
 use Rattle.std.proofs.Common.{ap, sym, ◌∙◌}
 use Rattle.std.specs.Option.{option_copied}
-use Rattle.vg_isa.proofs.Instructions.{instr_typed}
+use Rattle.vg_isa.proofs.Kept.{instr_typed}
 use Rattle.vg_isa.proofs.isa.Isa.instr.Goals as goal
 
 pub returns-clause-typed : goal.returns-clause-typed

@@ -1,6 +1,6 @@
 use Rattle.std.proofs.Common.{◌∙◌, ap, sym}
 use Rattle.vg_isa.specs.declared.instr.Instr.{Instr}
-use Rattle.vg_image.specs.Decoding.{matches}
+use Rattle.vg_format.specs.Matching.{matches}
 use Rattle.vg_image.specs.Step.{executed}
 use Rattle.vg_iss.specs.Kept.{write_registers}
 use Rattle.vg_iss.specs.Simulator.{state_of}

@@ -1,7 +1,7 @@
 use Rattle.std.proofs.Common.{◌≡◌, nat_eq, drop}
 use Rattle.std.specs.List.{list_all}
 use Rattle.vg_isa.specs.Declaration.{field_of}
-use Rattle.vg_iss.proofs.decoding.matches_fixed.Given as goal
+use Rattle.vg_format.proofs.matching.has_fixed.Given as goal
 
 -- the fields so far have their values, so those from here on decide
 abbrev pub invariant-loop-id : goal.invariant-loop-id
