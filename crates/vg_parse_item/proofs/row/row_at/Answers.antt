@@ -20,7 +20,7 @@ returns-in_default-sign_at g c =
     sym c.loop-fuel.invariant
     ∙ row_last g.T.Element.reader c.loop-fuel.fuel c.loop-fuel.front (placed c.loop-fuel.rest.now) (c.in-Some.element, placed c.in-Some.others.now)
     c.loop-fuel-test.true found c.in_default-sign_at.ensures
-    ∙ ap (λ front. Some (front, placed c.in-Some.others.now)) (sym c.in_ok-push.ensures.ok)
+    ∙ ap (λ front. Some (front, placed c.in-Some.others.now)) (sym {a = c.push.new.self} c.in_ok-push.ensures.ok)
 
 pub loop-fuel-preserved : goal.loop-fuel-preserved
 loop-fuel-preserved g c =
