@@ -17,7 +17,8 @@ pub data ZeroAdded : Type 0 where
 abbrev pub sum_step : List ℕ → ℕ → Outcome Sum ℕ ZeroAdded
 sum_step [] total = End total
 sum_step (zero ∷ left) total = Undefined zero_added
-sum_step (suc n ∷ left) total = if nat_le (total + suc n) 255 then Next (record { left = left; total = total + suc n }) else StackFull
+sum_step (suc n ∷ left) total =
+    if nat_le (total + suc n) 255 then Next (record { left = left; total = total + suc n }) else StackFull
 
 -- where the machine stands: before its start, before it fetches a number, and with a number fetched
 pub data Place : Type 0 where
@@ -31,7 +32,8 @@ add_move limit (Off left) = Moved (Fetch left 0)
 add_move limit (Fetch left total) = Moved (Add left total)
 add_move limit (Add [] total) = Halted Ended
 add_move limit (Add (zero ∷ left) total) = Halted (Failed zero_added)
-add_move limit (Add (suc n ∷ left) total) = if nat_le (total + suc n) limit then Moved (Fetch left (total + suc n)) else Halted Full
+add_move limit (Add (suc n ∷ left) total) =
+    if nat_le (total + suc n) limit then Moved (Fetch left (total + suc n)) else Halted Full
 
 -- the total at a place
 abbrev pub total_at : Place → ℕ

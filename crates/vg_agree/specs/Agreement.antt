@@ -46,8 +46,10 @@ pub record Agreement (d : Diagram) : Type 0 where
   -- however many moves the machine is let make, what it then says is so of the program
   pub answers : (bound : ℕ) → Tells d bound (stand_of d bound).place (stand_of d bound).halt
   -- where the program ends, the machine has ended by the costs of its steps, and shows the result
-  pub ends : (n : ℕ) (r : d.Result) (bound : ℕ) → outcome_of d n ≡ End r → d.start_cost + n * d.step_cost ≤ bound → ((stand_of d bound).halt ≡ Some Ended) × d.Shows r (stand_of d bound).place
+  pub ends : (n : ℕ) (r : d.Result) (bound : ℕ) → outcome_of d n ≡ End r → d.start_cost + n * d.step_cost ≤ bound
+      → ((stand_of d bound).halt ≡ Some Ended) × d.Shows r (stand_of d bound).place
   -- where the program fills the stack, the machine has halted for that by the costs of its steps
-  pub fills : (n bound : ℕ) → outcome_of d n ≡ StackFull → d.start_cost + n * d.step_cost ≤ bound → (stand_of d bound).halt ≡ Some Full
+  pub fills : (n bound : ℕ) → outcome_of d n ≡ StackFull → d.start_cost + n * d.step_cost ≤ bound
+      → (stand_of d bound).halt ≡ Some Full
   -- while the program goes on, the machine does
   pub goes_on : (n : ℕ) (s : d.State) (bound : ℕ) → outcome_of d n ≡ Next s → bound < n → (stand_of d bound).halt ≡ None

@@ -10,7 +10,8 @@ pub data Outcome (State Result Cause : Type 0) : Type 0 where
   Undefined : Cause → Outcome State Result Cause
 
 -- what comes one step behind an outcome: the step of a state; any other outcome stays
-abbrev pub after : {State Result Cause : Type 0} → (State → Outcome State Result Cause) → Outcome State Result Cause → Outcome State Result Cause
+abbrev pub after : {State Result Cause : Type 0} → (State → Outcome State Result Cause) → Outcome State Result Cause
+    → Outcome State Result Cause
 after step (Next s) = step s
 after step (End r) = End r
 after step StackFull = StackFull
@@ -18,6 +19,7 @@ after step (Undefined c) = Undefined c
 
 -- The outcome of so many steps behind the start, which is a state or an outcome itself. So at most one outcome that is
 -- no state is ever reached.
-abbrev pub outcome : {State Result Cause : Type 0} → (State → Outcome State Result Cause) → Outcome State Result Cause → ℕ → Outcome State Result Cause
+abbrev pub outcome : {State Result Cause : Type 0} → (State → Outcome State Result Cause) → Outcome State Result Cause
+    → ℕ → Outcome State Result Cause
 outcome step start zero = start
 outcome step start (suc n) = after step (outcome step start n)

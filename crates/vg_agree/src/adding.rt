@@ -22,7 +22,8 @@ pub fn adding_agrees()
 }
 
 /// Where the machine fills its stack too early or too late, or makes more moves a step than is claimed, the law's
-/// conclusion is false, and where its start takes a move that isn't claimed, the premise is: so neither says too little.
+/// conclusion is false, and where its start takes a move that isn't claimed, the premise is. So neither says too
+/// little.
 pub fn others_disagree()
     ensures early { Agreement (adding 254 1 2 (200 ∷ 55 ∷ [])) → ⊥ }
     ensures late { Agreement (adding 256 1 2 (200 ∷ 56 ∷ [])) → ⊥ }

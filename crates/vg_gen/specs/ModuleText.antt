@@ -17,12 +17,15 @@ operation _ = codes "xor"
 
 -- the operands of the instruction that sets %vJ, both drawn below J, where the sequence has come to x
 abbrev pub operands : ℕ → ℕ → List ℕ
-operands x j = codes " i16 %v" ++ decimal (drawn (number_after x 1) j) ++ codes ", %v" ++ decimal (drawn (number_after x 2) j) ++ codes "\n"
+operands x j =
+    codes " i16 %v" ++ decimal (drawn (number_after x 1) j) ++ codes ", %v" ++ decimal (drawn (number_after x 2) j)
+    ++ codes "\n"
 
 -- The instruction that sets %vJ, where the sequence has come to x: its operation is drawn first, below 5, and then its
 -- operands.
 abbrev pub instruction : ℕ → ℕ → List ℕ
-instruction x j = codes "  %v" ++ decimal j ++ codes " = " ++ operation (drawn (number_after x 1) 5) ++ operands (number_after x 1) j
+instruction x j =
+    codes "  %v" ++ decimal j ++ codes " = " ++ operation (drawn (number_after x 1) 5) ++ operands (number_after x 1) j
 
 -- Function K, where the sequence has come to x: 40 instructions of three draws each, for J from 2 to 41, and the return
 -- of the last.
