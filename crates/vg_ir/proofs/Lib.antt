@@ -1,0 +1,12 @@
+pub mod Binding
+pub mod OneEnd
+pub mod Keeping
+pub mod Membership
+pub mod Widths
+pub mod Results
+pub mod Bytes
+pub mod InitialBytes
+pub mod Effects
+pub mod Steps
+pub mod Apart
+pub mod Failing

@@ -1,0 +1,15 @@
+-- The runs compute.
+use Rattle.std.proofs.Common.{refl}
+use Rattle.vg_bits.specs.BitValue.{signed_value, unsigned_quotient, unsigned_remainder, signed_quotient, signed_remainder, shifted_left, shifted_right, signed_shifted_right}
+use Rattle.vg_ir.specs.declared.ty.Ty.{out-Ty}
+use Rattle.vg_ir.specs.TypeLayout.{layout_within}
+use Rattle.vg_ir.specs.Initial.{bytes_within}
+use Rattle.vg_irrows.proofs.recursion.recursions.Goals as goal
+
+pub returns-clause-fits : goal.returns-clause-fits
+unfolding layout_within bytes_within signed_value unsigned_quotient unsigned_remainder signed_quotient signed_remainder shifted_left shifted_right signed_shifted_right out-Ty denote.Hole.Carrier.out
+returns-clause-fits c = refl
+
+pub returns-clause-full : goal.returns-clause-full
+unfolding layout_within bytes_within signed_value unsigned_quotient unsigned_remainder signed_quotient signed_remainder shifted_left shifted_right signed_shifted_right out-Ty denote.Hole.Carrier.out
+returns-clause-full c = refl

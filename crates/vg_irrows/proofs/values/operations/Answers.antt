@@ -1,0 +1,11 @@
+-- The runs compute.
+use Rattle.std.proofs.Common.{refl}
+use Rattle.vg_bits.specs.BitValue.{signed_value, unsigned_quotient, unsigned_remainder, signed_quotient, signed_remainder, shifted_left, shifted_right, signed_shifted_right}
+use Rattle.vg_ir.specs.declared.ty.Ty.{out-Ty}
+use Rattle.vg_ir.specs.TypeLayout.{layout_within}
+use Rattle.vg_ir.specs.Initial.{bytes_within}
+use Rattle.vg_irrows.proofs.values.operations.Goals as goal
+
+pub returns : goal.returns
+unfolding layout_within bytes_within signed_value unsigned_quotient unsigned_remainder signed_quotient signed_remainder shifted_left shifted_right signed_shifted_right out-Ty denote.Hole.Carrier.out
+returns c = record { add = refl; sub = refl; mul = refl; udiv = refl; urem = refl; sdiv = refl; sdiv_negative = refl; srem = refl; srem_negative = refl; shl = refl; lshr = refl; ashr = refl; and = refl; or = refl; xor = refl }
