@@ -158,9 +158,10 @@ def is_below(pid, top):
 
 
 def watch(top):
-    """Follows a running gate to its end, and writes the rows of the crates whose own check it saw."""
-    seen = {}
+    """Follows a running gate to its end, and writes the rows of the crates that it proved, with all of their edits, meanwhile."""
+    seen, before, alive = {}, set(), set()
     while os.path.isdir(f"/proc/{top}"):
+        before, alive = alive, set()
         for pid in filter(str.isdigit, os.listdir("/proc")):
             try:
                 told = told_of(pid) if is_below(int(pid), top) else None
@@ -168,13 +169,17 @@ def watch(top):
                 continue
             if told:
                 seen[pid, told[:2]] = told
+                alive.add(told[0])
         time.sleep(0.5)
+    # what a gate that is stopped had begun is no row
+    begun = before | alive
     above, rows = read_page()
     for name in CRATES:
         took = {part: sum(it[2] for it in seen.values() if it[:2] == (name, part)) for part in ("check", "tests", "edits")}
-        if took["check"]:
+        number = len(glob.glob(os.path.join(folder(name), "must-fail", "*.edit")))
+        tried = sum(it[:2] == (name, "edits") for it in seen.values())
+        if took["check"] and tried >= number and name not in begun:
             memory = max(it[3] for it in seen.values() if it[0] == name)
-            number = len(glob.glob(os.path.join(folder(name), "must-fail", "*.edit")))
             rows[name] = [lines(name), took["check"], took["tests"], number, took["edits"], sum(took.values()), memory]
     write_page(above, {it: rows[it] for it in rows if it in CRATES})
 
