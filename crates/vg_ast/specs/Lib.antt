@@ -12,3 +12,4 @@ pub mod TreeItem
 pub mod Description
 pub mod Piece
 pub mod Leaving
+pub mod Start

@@ -32,6 +32,7 @@ mod part;
 mod range;
 mod register;
 mod role;
+mod start;
 mod statement;
 mod type_expr;
 
@@ -52,5 +53,6 @@ pub use part::{NumberFormat, Part};
 pub use range::Range;
 pub use register::Register;
 pub use role::Role;
+pub use start::start_of;
 pub use statement::Statement;
 pub use type_expr::{BitsKind, TypeExpr};

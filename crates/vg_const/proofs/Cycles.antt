@@ -1,15 +1,14 @@
--- Where there is an order nothing uses itself, and at most one item is the first that uses itself.
+-- Where there is an order nothing uses itself.
 use Rattle.std.proofs.Common.{◌≡◌, ℕ, suc, ◌<◌, ◌≤◌, ◌⊎◌, inl, inr, Bool, true, false, ◌&&◌, List, [], ◌∷◌, ◌++◌, length, Option, Some, None, refl, sym, ap, subst, ◌∙◌, arith, true≢false, if◌then◌else◌}
 use Rattle.std.specs.Prelude.{slice_get}
 use Rattle.std.proofs.lemmas.Bool.{and_parts}
-use Rattle.vg_ast.specs.declared.name.Name.{Name}
 use Rattle.vg_ast.specs.declared.item.Item.{Item}
 use Rattle.vg_ast.specs.declared.desc.Desc.{Desc}
 use Rattle.vg_names.specs.Definition.{Text, item_named, is_among}
 use Rattle.vg_names.specs.Duplicate.{duplicates}
 use Rattle.vg_names.proofs.Texts.{among_cases}
 use Rattle.vg_order.specs.Uses.{uses_of}
-use Rattle.vg_order.specs.Cyclic.{replaced_name, is_replaced, Uses, Reaches, directly, through, IsCyclic, NoneIsCyclic, IsFirstCyclic, text_of, names_of, may_follow, is_order_behind, IsOrder}
+use Rattle.vg_order.specs.Cyclic.{is_replaced, Uses, Reaches, directly, through, text_of, names_of, may_follow, is_order_behind, IsOrder}
 use Rattle.vg_order.proofs.Lookups.{user_replaced}
 use Rattle.vg_order.proofs.Ordered.{own_item, replaced_ordered, used_before}
 
@@ -90,25 +89,3 @@ reached_stands_longer d order distinct is {a} {b} (through {b = middle} usage wa
 pub none_reaches_itself : (d : Desc) (order : List ℕ) (a : Text) → duplicates d ≡ [] → IsOrder d.items order → Reaches d.items a a → ⊥
 none_reaches_itself d order a distinct is way = let longer = reached_stands_longer d order distinct is way in omega arith
 
-pub order_or_cycle : (d : Desc) (order : List ℕ) (at : ℕ) → duplicates d ≡ [] → IsOrder d.items order → IsFirstCyclic d.items at → ⊥
-order_or_cycle d order at distinct is (front, item, behind, name, split, none, named, place, way) = none_reaches_itself d order name.text distinct is way
-
--- two items that use themselves, with none in front, are one
-same_first : (all front behind other_front other_behind : List Item) (item other : Item) → front ++ item ∷ behind ≡ other_front ++ other ∷ other_behind → NoneIsCyclic all front → NoneIsCyclic all other_front → IsCyclic all item → IsCyclic all other → item ≡ other
-same_first all [] behind [] other_behind item other e none other_none cyclic other_cyclic = cc
-same_first all [] behind (x ∷ xs) other_behind item other e none other_none cyclic other_cyclic =
-    let same : item ≡ x = cc in
-    absurd (other_none.0 (subst (IsCyclic all) same cyclic))
-same_first all (x ∷ xs) behind [] other_behind item other e none other_none cyclic other_cyclic =
-    let same : other ≡ x = cc in
-    absurd (none.0 (subst (IsCyclic all) same other_cyclic))
-same_first all (x ∷ xs) behind (y ∷ ys) other_behind item other e none other_none cyclic other_cyclic =
-    let more : xs ++ item ∷ behind ≡ ys ++ other ∷ other_behind = cc in
-    same_first all xs behind ys other_behind item other more none.1 other_none.1 cyclic other_cyclic
-
-pub one_first_cyclic : (all : List Item) (a b : ℕ) → IsFirstCyclic all a → IsFirstCyclic all b → a ≡ b
-one_first_cyclic all a b (front, item, behind, name, split, none, named, place, way) (other_front, other, other_behind, other_name, other_split, other_none, other_named, other_place, other_way) =
-    let same : item ≡ other = same_first all front behind other_front other_behind item other (sym split ∙ other_split) none other_none (name, named, way) (other_name, other_named, other_way) in
-    let names : Some name ≡ Some other_name = sym named ∙ ap replaced_name same ∙ other_named in
-    let one : name ≡ other_name = cc in
-    place ∙ ap (λ (n : Name). n.at) one ∙ sym other_place

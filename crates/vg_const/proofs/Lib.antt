@@ -1,7 +1,5 @@
-pub mod Nothing
-pub mod Placing
-pub mod Cycles
-pub mod OneWorth
-pub mod OneCount
-pub mod OneFault
+mod Cycles
+mod Circles
+mod Broken
+mod Made
 pub mod OneAnswer

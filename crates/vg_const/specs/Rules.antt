@@ -1,75 +1,87 @@
--- Which rule of names, constants and sizes a description breaks first, and where. The rules are asked in this order:
--- nothing is defined twice, all names are known, nothing uses itself, no operator leaves the whole numbers, and no
--- behaviour has too many nodes.
-use Rattle.std.specs.Prelude.{◌≡◌, ℕ, List, [], map, Some}
+-- The rules of names, constants and sizes: at which places a description breaks each, and which it breaks first.
+use Rattle.std.specs.Prelude.{◌≡◌, ◌⊎◌, ℕ, List, [], ◌∷◌, ◌++◌, Option, Some, None}
 use Rattle.vg_ast.specs.declared.desc.Desc.{Desc}
 use Rattle.vg_names.specs.Duplicate.{duplicates}
 use Rattle.vg_names.specs.First.{first_of}
 use Rattle.vg_names.specs.Unknown.{unknowns}
-use Rattle.vg_order.specs.Cyclic.{IsOrder, IsFirstCyclic}
-use Rattle.vg_whole.specs.declared.worth.Worth.{Worth}
 use Rattle.vg_whole.specs.Overflow.{overflows}
-use Rattle.vg_whole.specs.Worths.{AreWorths, constants_by}
-use Rattle.vg_nodes.specs.Nodes.{Functions, AreFunctions, excesses}
-use Rattle.vg_inline.specs.declared.in_place.InPlace.{InPlace}
-use Rattle.vg_inline.specs.InPlace.{Known, IsKnown, behaviour_of}
-use Rattle.vg_inline.specs.Context.{aliases_by}
+use Rattle.vg_whole.specs.Worths.{constants_of, constants_by}
+use Rattle.vg_inline.specs.Types.{aliases_of}
+use Rattle.vg_inline.specs.Inline.{bodies_of}
+use Rattle.vg_inline.specs.Kept.{keeping}
+use Rattle.vg_inline.specs.Context.{aliases_by, bodies_by}
+use Rattle.vg_inline.specs.InPlace.{excesses}
 use Rattle.vg_const.specs.declared.fault.DescFault.{DescFault}
+use Rattle.vg_const.specs.declared.rule.Rule.{Rule}
+use Rattle.vg_const.specs.declared.rule.Rule.TheVariants as rules
 use Rattle.vg_const.specs.declared.fault.DescFault.TheVariants as faults
 use Rattle.vg_const.specs.declared.plain.Plain.{Plain}
+use Rattle.vg_const.specs.Cycle.{cycles}
 
--- nothing is defined twice, and all names are known
-pub record IsNamed (d : Desc) : Type 0 where
-  pub distinct : duplicates d ≡ []
-  pub known : unknowns d ≡ []
+-- the places at which a description breaks a rule, in the order of the text
+abbrev pub places_of : Rule → Desc → List ℕ
+places_of rules.Duplicate d = duplicates d
+places_of rules.Unknown d = unknowns d
+places_of rules.Cyclic d = cycles d.items
+places_of rules.Overflow d = overflows d (constants_of d.items)
+places_of rules.Limit d = excesses d.items
 
--- and nothing uses itself, since its constants, aliases and functions have an order
-pub record IsSorted (d : Desc) (order : List ℕ) : Type 0 where
-  pub named : IsNamed d
-  pub sorted : IsOrder d.items order
+abbrev pub fault_of : Rule → ℕ → DescFault
+fault_of rules.Duplicate at = faults.Duplicate at
+fault_of rules.Unknown at = faults.Unknown at
+fault_of rules.Cyclic at = faults.Cyclic at
+fault_of rules.Overflow at = faults.Overflow at
+fault_of rules.Limit at = faults.Limit at
 
--- and these are the worths of its items
-pub record IsValued (d : Desc) (order : List ℕ) (worths : List Worth) : Type 0 where
-  pub acyclic : IsSorted d order
-  pub valued : AreWorths d.items worths
+-- the rules in the order in which they are asked
+abbrev pub asked : List Rule
+asked = rules.Duplicate ∷ rules.Unknown ∷ rules.Cyclic ∷ rules.Overflow ∷ rules.Limit ∷ []
 
--- and no operator leaves the whole numbers, and its functions count this
-pub record IsCounted (d : Desc) (order : List ℕ) (worths : List Worth) (functions : Functions) : Type 0 where
-  pub whole : IsValued d order worths
-  pub in_range : overflows d (constants_by d.items worths) ≡ []
-  pub counted : AreFunctions d.items (constants_by d.items worths) functions
+abbrev pub fault_or : Rule → Option ℕ → Option DescFault → Option DescFault
+fault_or rule None later = later
+fault_or rule (Some at) later = Some (fault_of rule at)
 
--- and no behaviour has too many nodes
-pub record IsWithin (d : Desc) (order : List ℕ) (worths : List Worth) (functions : Functions) : Type 0 where
-  pub measured : IsCounted d order worths functions
-  pub within : excesses d (constants_by d.items worths) functions ≡ []
+-- the first of these rules that is broken, at its first place
+abbrev pub first_broken : List Rule → Desc → Option DescFault
+first_broken [] d = None
+first_broken (rule ∷ more) d = fault_or rule (first_of (places_of rule d)) (first_broken more d)
+
+-- the rule that a description breaks first, at its first place; None where it keeps them all
+unfoldable pub broken : Desc → Option DescFault
+broken d = first_broken asked d
 
 -- a description keeps all these rules
-abbrev pub IsAccepted : Desc → List Worth → Type 0
-IsAccepted d worths = (order : List ℕ) × (functions : Functions) × IsWithin d order worths functions
+abbrev pub IsAccepted : Desc → Type 0
+IsAccepted d = broken d ≡ None
 
 -- a description breaks a rule first at a place, and no rule before it
 abbrev pub Breaks : Desc → DescFault → Type 0
-Breaks d (faults.Duplicate at) = first_of (duplicates d) ≡ Some at
-Breaks d (faults.Unknown at) = (duplicates d ≡ []) × (first_of (unknowns d) ≡ Some at)
-Breaks d (faults.Cyclic at) = IsNamed d × IsFirstCyclic d.items at
-Breaks d (faults.Overflow at) =
-    (order : List ℕ) × (worths : List Worth) × IsValued d order worths × (first_of (overflows d (constants_by d.items worths)) ≡ Some at)
-Breaks d (faults.Limit at) =
-    (order : List ℕ) × (worths : List Worth) × (functions : Functions) × IsCounted d order worths functions
-    × (first_of (excesses d (constants_by d.items worths) functions) ≡ Some at)
-Breaks d faults.OutOfMemory = ⊥
+Breaks d fault = broken d ≡ Some fault
 
--- this stands in place of its names: what its aliases stand for, and what its instructions do
-pub record IsInPlace (d : Desc) (worths : List Worth) (in_place : InPlace) : Type 0 where
-  pub known : Known
-  pub is_known : IsKnown d.items known
-  pub constants : known.constants ≡ constants_by d.items worths
-  pub aliases : known.aliases ≡ aliases_by d.items in_place.aliases
-  pub behaviours : in_place.behaviours ≡ map (behaviour_of d.items known) d.items
-
--- what a description is folded to
+-- What a description is folded to: itself, what its constants are worth, what its aliases stand for, and the bodies of its
+-- functions as far as they don't have too many nodes.
 pub record IsFolded (d : Desc) (plain : Plain) : Type 0 where
   pub description : plain.description ≡ d
-  pub accepted : IsAccepted d plain.worths
-  pub in_place : IsInPlace d plain.worths plain.in_place
+  pub accepted : IsAccepted d
+  pub constants : constants_by d.items plain.worths ≡ constants_of d.items
+  pub aliases : aliases_by d.items plain.aliases ≡ aliases_of d.items (constants_of d.items)
+  pub bodies : bodies_by d.items plain.bodies ≡ bodies_of keeping d.items (constants_of d.items) (aliases_of d.items (constants_of d.items))
+
+-- A law: a description is accepted, or breaks a rule first at a place; not both, and only one.
+pub record OneAnswer (d : Desc) : Type 0 where
+  pub some : (broken d ≡ None) ⊎ ((fault : DescFault) × Breaks d fault)
+  pub one : (f g : DescFault) → Breaks d f → Breaks d g → f ≡ g
+  pub either : (f : DescFault) → Breaks d f → IsAccepted d → ⊥
+
+-- a description breaks none of these rules anywhere
+abbrev pub BreaksNone : List Rule → Desc → Type 0
+BreaksNone [] d = Unit {0}
+BreaksNone (rule ∷ more) d = (places_of rule d ≡ []) × BreaksNone more d
+
+-- A law: an accepted description breaks no rule anywhere, and where one is broken first at a place, that is its first place
+-- and no rule before it is broken.
+pub record AreFirst (d : Desc) : Type 0 where
+  pub accepted : IsAccepted d → BreaksNone asked d
+  pub first : (fault : DescFault) → Breaks d fault
+      → (front : List Rule) × (rule : Rule) × (behind : List Rule) × (at : ℕ) × (asked ≡ front ++ rule ∷ behind) × (fault ≡ fault_of rule at)
+      × (first_of (places_of rule d) ≡ Some at) × BreaksNone front d

@@ -1,24 +1,87 @@
-ghost use Rattle.std.specs.Prelude.{◌≡◌, ◌⊎◌, List, IfOk, IfErr, IsErrAnd, MatchResult};
+ghost use Rattle.std.specs.Prelude.{◌≡◌, ◌⊎◌, [], None, Some, IfOk, IfErr, IsErrAnd, MatchResult};
+ghost use Rattle.vg_names.specs.Duplicate.{duplicates};
+ghost use Rattle.vg_names.specs.First.{first_of};
+ghost use Rattle.vg_names.specs.Unknown.{unknowns};
 ghost use Rattle.vg_order.specs.Cyclic.{IsOrder};
-ghost use Rattle.vg_whole.specs.declared.worth.Worth.{Worth as TheWorth};
+ghost use Rattle.vg_whole.specs.Overflow.{overflows};
+ghost use Rattle.vg_whole.specs.Worths.{constants_of, constants_by, AreWorths};
+ghost use Rattle.vg_inline.specs.Types.{aliases_of};
+ghost use Rattle.vg_inline.specs.Inline.{bodies_of};
+ghost use Rattle.vg_inline.specs.Kept.{keeping};
+ghost use Rattle.vg_inline.specs.Context.{aliases_by, bodies_by};
+ghost use Rattle.vg_inline.specs.InPlace.{excesses};
 ghost use Rattle.vg_const.specs.declared.fault.DescFault.{DescFault as TheFault};
-ghost use Rattle.vg_const.specs.Rules.{IsNamed, IsValued, IsAccepted, IsInPlace, IsFolded, Breaks};
+ghost use Rattle.vg_const.specs.Cycle.{cycles};
+ghost use Rattle.vg_const.specs.Rules.{IsAccepted, IsFolded, Breaks};
 
 use crate::fault::DescFault;
 use crate::plain::Plain;
 use sqlite_items::Items;
-use std::alloc::Global;
-use vg_ast::Desc;
-use vg_inline::{InPlace, put_in_place};
+use std::alloc::{AllocError, Global};
+use vg_ast::{Desc, Item};
+use vg_inline::{
+    Context, Declared, Kept, first_excess, work_out_aliases, work_out_bodies,
+};
 use vg_names::{Table, first_duplicate, first_unknown};
-use vg_nodes::first_excess;
 use vg_order::{Order, order_of};
 use vg_whole::{Worth, first_overflow, worths};
 
-/// Asks whether nothing is defined twice, and then whether all names are known.
-#[tactic(auto, using(crate::proofs::Nothing::nothing_first, crate::proofs::Nothing::named))]
-fn named(alloc: Global, d: &Desc) -> Result<(), DescFault>
-    ensures named { IfOk result (λ _. IsNamed d.now) }
+/// An order of what is put in place of its name, or the place of the name of the first that uses itself.
+fn order(alloc: Global, d: &Desc) -> Result<Result<Items<usize>, usize>, AllocError>
+    requires distinct { duplicates d.now ≡ [] }
+    ensures sorted { IfOk result (λ found. IfOk found (IsOrder d.now.items)) }
+    ensures acyclic { IfOk result (λ found. IfOk found (λ _. first_of (cycles d.now.items) ≡ None)) }
+    ensures cyclic { IfOk result (λ found. IfErr found (λ at. first_of (cycles d.now.items) ≡ Some at)) }
+{
+    match order_of(alloc, d)? {
+        Order::Sorted(order) => Ok(Ok(order)),
+        Order::Cyclic { at } => Ok(Err(at)),
+    }
+}
+
+/// The place of the first operator that leaves the whole numbers.
+fn overflow(d: &Desc, table: &Table, worths: &[Worth]) -> Option<usize>
+    requires table { table.now.items.now ≡ d.now.items }
+    requires constants { constants_by d.now.items worths.now ≡ constants_of d.now.items }
+    ensures { result ≡ first_of (overflows d.now (constants_of d.now.items)) }
+{
+    first_overflow(d, table, worths)
+}
+
+/// The place of the name of the first instruction that has too many nodes.
+fn excess(
+    alloc: Global,
+    d: &Desc,
+    table: &Table,
+    worths: &[Worth],
+    aliases: &[Declared],
+    bodies: &[Option<Kept>],
+) -> Result<Option<usize>, AllocError>
+    requires table { table.now.items.now ≡ d.now.items }
+    requires constants { constants_by d.now.items worths.now ≡ constants_of d.now.items }
+    requires aliases { aliases_by d.now.items aliases.now ≡ aliases_of d.now.items (constants_of d.now.items) }
+    requires bodies { bodies_by d.now.items bodies.now ≡ bodies_of keeping d.now.items (constants_of d.now.items) (aliases_of d.now.items (constants_of d.now.items)) }
+    ensures { IfOk result (λ found. found ≡ first_of (excesses d.now.items)) }
+{
+    let context = Context {
+        table,
+        worths,
+        aliases,
+        bodies,
+        parameters: &[],
+    };
+    first_excess(alloc, &context)
+}
+
+/// What is known of the items of a description, where it keeps the rules. They are asked in their order.
+fn known(
+    alloc: Global,
+    d: &Desc,
+) -> Result<(Items<Worth>, Items<Declared>, Items<Option<Kept>>), DescFault>
+    ensures accepted { IfOk result (λ _. IsAccepted d.now) }
+    ensures constants { IfOk result (λ it. constants_by d.now.items it.0 ≡ constants_of d.now.items) }
+    ensures aliases { IfOk result (λ it. aliases_by d.now.items it.1 ≡ aliases_of d.now.items (constants_of d.now.items)) }
+    ensures bodies { IfOk result (λ it. bodies_by d.now.items it.2 ≡ bodies_of keeping d.now.items (constants_of d.now.items) (aliases_of d.now.items (constants_of d.now.items))) }
     ensures fault { IfErr result (λ f. (f ≡ DescFault.OutOfMemory) ⊎ Breaks d.now f) }
 {
     if let Some(at) = first_duplicate(alloc, d)? {
@@ -27,90 +90,29 @@ fn named(alloc: Global, d: &Desc) -> Result<(), DescFault>
     if let Some(at) = first_unknown(alloc, d)? {
         return Err(DescFault::Unknown { at });
     }
-    Ok(())
-}
-
-/// Asks whether nothing uses itself, and puts what stands in place of its name into an order.
-fn sorted(alloc: Global, d: &Desc) -> Result<Items<usize>, DescFault>
-    requires named { IsNamed d.now }
-    ensures sorted { IfOk result (λ order. IsOrder d.now.items order) }
-    ensures fault { IfErr result (λ f. (f ≡ DescFault.OutOfMemory) ⊎ Breaks d.now f) }
-{
-    match order_of(alloc, d)? {
-        Order::Sorted(order) => Ok(order),
-        Order::Cyclic { at } => Err(DescFault::Cyclic { at }),
-    }
-}
-
-/// Asks whether no operator leaves the whole numbers, and then whether no behaviour has too many nodes.
-#[tactic(auto, using(crate::proofs::Nothing::overflowing, crate::proofs::Nothing::exceeding, crate::proofs::Nothing::accepted))]
-fn sized(
-    alloc: Global,
-    d: &Desc,
-    table: &Table,
-    order: &[usize],
-    worths: &[Worth],
-) -> Result<(), DescFault>
-    requires table { table.now.items.now ≡ d.now.items }
-    requires valued { IsValued d.now order.now worths.now }
-    ensures accepted { IfOk result (λ _. IsAccepted d.now worths.now) }
-    ensures fault { IfErr result (λ f. (f ≡ DescFault.OutOfMemory) ⊎ Breaks d.now f) }
-{
-    if let Some(at) = first_overflow(d, table, worths) {
-        return Err(DescFault::Overflow { at });
-    }
-    if let Some(at) = first_excess(alloc, d, table, order, worths)? {
-        return Err(DescFault::Limit { at });
-    }
-    Ok(())
-}
-
-/// What stands in place of the names of a description, where the rules of sizes are kept too.
-#[tactic(auto, using(crate::proofs::Placing::in_place))]
-fn placed(
-    alloc: Global,
-    d: &Desc,
-    table: &Table,
-    order: &[usize],
-    worths: &[Worth],
-) -> Result<InPlace, DescFault>
-    requires table { table.now.items.now ≡ d.now.items }
-    requires valued { IsValued d.now order.now worths.now }
-    ensures accepted { IfOk result (λ _. IsAccepted d.now worths.now) }
-    ensures in_place { IfOk result (λ made. IsInPlace d.now worths.now made) }
-    ensures fault { IfErr result (λ f. (f ≡ DescFault.OutOfMemory) ⊎ Breaks d.now f) }
-{
-    sized(alloc, d, table, order, worths)?;
-    Ok(put_in_place(alloc, d, table, order, worths)?)
-}
-
-/// What the items of a description are worth, and what stands in place of its names, where it keeps the rules. Each rule
-/// is asked behind those before it.
-#[tactic(auto, using(crate::proofs::Nothing::valued))]
-fn judged(alloc: Global, d: &Desc) -> Result<(Items<Worth>, InPlace), DescFault>
-    ensures accepted { IfOk result (λ made. IsAccepted d.now made.0) }
-    ensures in_place { IfOk result (λ made. IsInPlace d.now made.0 made.1) }
-    ensures fault { IfErr result (λ f. (f ≡ DescFault.OutOfMemory) ⊎ Breaks d.now f) }
-{
-    named(alloc, d)?;
-    let order = sorted(alloc, d)?;
+    let order = match order(alloc, d)? {
+        Ok(order) => order,
+        Err(at) => return Err(DescFault::Cyclic { at }),
+    };
     let table = Table::new(alloc, d.items.as_slice())?;
     let worths = worths(alloc, d, &table, order.as_slice())?;
-    let in_place = placed(alloc, d, &table, order.as_slice(), worths.as_slice())?;
-    Ok((worths, in_place))
-}
-
-/// Folds a description, where it keeps the rules.
-fn folded(alloc: Global, d: Desc) -> Result<Plain, DescFault>
-    ensures plain { IfOk result (λ plain. IsFolded d plain) }
-    ensures fault { IfErr result (λ f. (f ≡ DescFault.OutOfMemory) ⊎ Breaks d f) }
-{
-    let (worths, in_place) = judged(alloc, &d)?;
-    Ok(Plain {
-        description: d,
-        worths,
-        in_place,
-    })
+    if let Some(at) = overflow(d, &table, worths.as_slice()) {
+        return Err(DescFault::Overflow { at });
+    }
+    let aliases = work_out_aliases(alloc, d, &table, order.as_slice(), worths.as_slice())?;
+    let bodies = work_out_bodies(alloc, d, &table, order.as_slice(), worths.as_slice(), aliases.as_slice())?;
+    let excess = excess(
+        alloc,
+        d,
+        &table,
+        worths.as_slice(),
+        aliases.as_slice(),
+        bodies.as_slice(),
+    )?;
+    if let Some(at) = excess {
+        return Err(DescFault::Limit { at });
+    }
+    Ok((worths, aliases, bodies))
 }
 
 /// Folds a description, or tells the first rule of names, constants and sizes that it breaks.
@@ -120,10 +122,15 @@ pub fn fold(alloc: Global, d: Desc) -> Result<Plain, DescFault>
     ensures fault { IfErr result (λ f. (f ≡ DescFault.OutOfMemory) ⊎ Breaks d f) }
 
     // A description that keeps the rules is folded, and one that breaks a rule is refused by it, unless memory runs out.
-    ensures accepts { (worths : List TheWorth) → IsAccepted d worths
-        → MatchResult result (λ plain. plain.worths ≡ worths) (λ f. f ≡ DescFault.OutOfMemory) }
+    ensures accepts { IsAccepted d → IfErr result (λ f. f ≡ DescFault.OutOfMemory) }
     ensures refuses { (fault : TheFault) → Breaks d fault
         → IsErrAnd result (λ f. (f ≡ DescFault.OutOfMemory) ⊎ (f ≡ fault)) }
 {
-    folded(alloc, d)
+    let (worths, aliases, bodies) = known(alloc, &d)?;
+    Ok(Plain {
+        description: d,
+        worths,
+        aliases,
+        bodies,
+    })
 }

@@ -1,12 +1,13 @@
-ghost use Rattle.std.specs.Prelude.{◌≡◌, List};
 ghost use Rattle.vg_ast.specs.declared.desc.Desc.{Desc};
-ghost use Rattle.vg_whole.specs.declared.worth.Worth.{Worth};
-ghost use Rattle.vg_const.specs.declared.fault.DescFault.{DescFault};
-ghost use Rattle.vg_const.specs.Rules.{Breaks, IsAccepted};
+ghost use Rattle.vg_const.specs.Rules.{OneAnswer, AreFirst};
 
-/// A description breaks at most one rule first, at one place, and none where it is accepted.
-pub fn one_fault()
-    ensures fault { (d : Desc) (f g : DescFault) → Breaks d f → Breaks d g → f ≡ g }
-    ensures either { (d : Desc) (f : DescFault) (worths : List Worth) → Breaks d f → IsAccepted d worths → ⊥ }
-    ensures worths { (d : Desc) (v w : List Worth) → IsAccepted d v → IsAccepted d w → v ≡ w }
+/// A law: a description is accepted, or it breaks a rule first at a place, and only one of these holds.
+pub fn one_answer()
+    ensures { (d : Desc) → OneAnswer d }
+{}
+
+/// A law: an accepted description breaks no rule, and the rule that is broken first is the least in their order, at its
+/// first place.
+pub fn are_first()
+    ensures { (d : Desc) → AreFirst d }
 {}

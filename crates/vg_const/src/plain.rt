@@ -1,14 +1,17 @@
 use sqlite_items::Items;
 use vg_ast::Desc;
-use vg_inline::InPlace;
+use vg_inline::{Declared, Kept};
 use vg_whole::Worth;
 
-/// A description that keeps the rules of names, constants and sizes.
+/// A description that keeps the rules of names, constants and sizes, with what is known of its items. Each list has one for
+/// each item, at its number.
 #[derive(Drop)]
 pub struct Plain {
     pub description: Desc,
     /// What each item is worth: a whole number, where it is a constant of whole numbers alone.
     pub worths: Items<Worth>,
-    /// What its aliases stand for and its instructions do, with everything in place of names.
-    pub in_place: InPlace,
+    /// What each alias stands for.
+    pub aliases: Items<Declared>,
+    /// The body of each function with everything but its parameters in place.
+    pub bodies: Items<Option<Kept>>,
 }

@@ -1,6 +1,9 @@
--- A loop that maps a list.
-use Rattle.std.proofs.Common.{◌≡◌, ℕ, ◌+◌, ◌<◌, ◌≤◌, List, map, [], ◌∷◌, ◌++◌, length, get_or, drop, sym, ap, ◌∙◌, refl}
+-- Loops that map a list, and that gather one.
+use Rattle.std.proofs.Common.{◌≡◌, ℕ, ◌+◌, ◌<◌, ◌≤◌, List, map, [], ◌∷◌, ◌++◌, Option, length, get_or, drop, sym, ap, ◌∙◌, refl}
 use Rattle.std.proofs.lemmas.List.{drop_more, drop_all}
+use Rattle.vg_inline.specs.declared.kept.Kept.{Kept}
+use Rattle.vg_inline.specs.declared.kept.KeptList.{KeptList}
+use Rattle.vg_inline.specs.Kept.{added, gathered}
 
 pub regroup : {B : Type 0} (xs : List B) (y : B) (zs : List B) → xs ++ y ∷ zs ≡ (xs ++ y ∷ []) ++ zs
 regroup [] y zs = refl
@@ -14,12 +17,16 @@ ending (x ∷ xs) = ap (λ (l : List _). x ∷ l) (ending xs)
 abbrev pub Mapped : {A B : Type 0} → (A → B) → List A → ℕ → List B → Type 0
 Mapped f xs i done = map f xs ≡ done ++ map f (drop i xs)
 
-pub mapped_more : {A B : Type 0} (f : A → B) (xs : List A) (i : ℕ) (x : A) (done next : List B) → Mapped f xs i done → i < length xs → x ≡ get_or xs i x → next ≡ done ++ f x ∷ [] → Mapped f xs (i + 1) next
-mapped_more f xs i x done next h lt read e =
-    h ∙ ap (λ (l : List _). done ++ map f l) (drop_more xs i x lt)
-    ∙ ap (λ (y : _). done ++ f y ∷ map f (drop (i + 1) xs)) (sym read)
-    ∙ regroup done (f x) (map f (drop (i + 1) xs))
-    ∙ ap (λ (l : List _). l ++ map f (drop (i + 1) xs)) (sym e)
+-- what is gathered so far, and the rest behind it
+abbrev pub Gathering : {A : Type 0} → (A → Option Kept) → List A → ℕ → Option KeptList → Option KeptList → Type 0
+Gathering f xs i first list = gathered first (map f xs) ≡ gathered list (map f (drop i xs))
 
-pub mapped_all : {A B : Type 0} (f : A → B) (xs : List A) (i : ℕ) (done : List B) → Mapped f xs i done → length xs ≤ i → done ≡ map f xs
-mapped_all f xs i done h le = sym (h ∙ ap (λ (l : List _). done ++ map f l) (drop_all i xs le) ∙ ending done)
+pub gathering_more : {A : Type 0} (f : A → Option Kept) (xs : List A) (i : ℕ) (x : A) (first list next : Option KeptList) (t : Option Kept) → Gathering f xs i first list → i < length xs → x ≡ get_or xs i x → t ≡ f x → next ≡ added list t → Gathering f xs (i + 1) first next
+gathering_more f xs i x first list next t h lt read e g =
+    h ∙ ap (λ (l : List _). gathered list (map f l)) (drop_more xs i x lt)
+    ∙ ap (λ (y : _). gathered (added list (f y)) (map f (drop (i + 1) xs))) (sym read)
+    ∙ ap (λ (u : Option Kept). gathered (added list u) (map f (drop (i + 1) xs))) (sym e)
+    ∙ ap (λ (l : Option KeptList). gathered l (map f (drop (i + 1) xs))) (sym g)
+
+pub gathering_all : {A : Type 0} (f : A → Option Kept) (xs : List A) (i : ℕ) (first list : Option KeptList) → Gathering f xs i first list → length xs ≤ i → list ≡ gathered first (map f xs)
+gathering_all f xs i first list h le = sym (h ∙ ap (λ (l : List _). gathered list (map f l)) (drop_all i xs le))

@@ -1,15 +1,12 @@
 -- Numbers of nodes that are told apart only as far as they are not too great.
-use Rattle.std.proofs.Common.{◌≡◌, ℕ, zero, suc, ◌+◌, ◌<◌, ◌≤◌, List, map, length, Option, None, get_or, drop, sym, ap, ◌∙◌, arith}
+use Rattle.std.proofs.Common.{◌≡◌, ℕ, ◌+◌, ◌<◌, ◌≤◌, List, map, Option, Some, None, length, get_or, drop, slice_index_or, sym, ap, ◌∙◌, arith}
 use Rattle.std.proofs.lemmas.List.{drop_more, drop_all}
-use Rattle.vg_nodes.specs.Capped.{capped}
-use Rattle.vg_nodes.specs.Inner.{Sizes}
-use Rattle.vg_nodes.specs.Nodes.{sum_of}
+use Rattle.vg_inline.specs.declared.head.Head.{Head}
 use Rattle.vg_inline.specs.declared.tree.Tree.{Tree}
-use Rattle.vg_inline.specs.declared.tree.Tree.TheVariants as tree
-use Rattle.vg_inline.specs.declared.made.Made.{Made}
-use Rattle.vg_inline.specs.Made.{chain, too_large, tree_or}
-use Rattle.vg_inline.specs.Size.{weighed, size, nothing}
-use Rattle.vg_inline.proofs.Levels.{weighed-Whole, weighed-Unary, weighed-Indexed}
+use Rattle.vg_inline.specs.Size.{sum_of, head_nodes}
+use Rattle.vg_inline.specs.Instantiate.{node, parameter_of}
+use Rattle.vg_inline.specs.Kept.{capped, weighed, weighed_by}
+use Rattle.vg_inline.proofs.TreeLemmas.{weighed-node, head_of, parts_of, node_again, same_parameter}
 
 pub capped_left : (a b : ℕ) → capped (capped a + b) ≡ capped (a + b)
 capped_left a b = omega arith
@@ -19,22 +16,10 @@ capped_right a b = omega arith
 
 pub ruleset weight_steps = (capped_left, capped_right)
 
-pub chain_size : (n : ℕ) → size (chain n) ≡ 1 + n
-unfolding chain
-chain_size zero = weighed-Whole nothing 0 0
-chain_size (suc n) = weighed-Unary nothing _ 0 (chain n) ∙ ap (λ (m : ℕ). 1 + m) (chain_size n) ∙ omega arith
-
-pub too_large_size : size too_large ≡ 4097
-unfolding too_large
-too_large_size = chain_size 4096
-
-pub indexed_weighs : (sizes : Sizes) (t : Tree) (item at : ℕ) (arguments given : List Tree) (n result : ℕ) → t ≡ tree.Indexed item at arguments → given ≡ arguments
-    → n ≡ capped (sum_of (map (weighed sizes) given)) → result ≡ capped (1 + n) → result ≡ capped (weighed sizes t)
-indexed_weighs sizes t item at arguments given n result is same counted e =
-    e ∙ ap (λ (m : ℕ). capped (1 + m)) (counted ∙ ap (λ (l : List Tree). capped (sum_of (map (weighed sizes) l))) same)
-    ∙ capped_right 1 (sum_of (map (weighed sizes) arguments))
-    ∙ ap capped (sym (weighed-Indexed sizes item at arguments))
-    ∙ ap (λ (u : Tree). capped (weighed sizes u)) (sym is)
+pub weighed_tree : (sizes : List ℕ) (t : Tree) → weighed sizes t ≡ weighed_by sizes (parameter_of (head_of t) (parts_of t)) (head_of t) (map (weighed sizes) (parts_of t))
+weighed_tree sizes t =
+    ap (weighed sizes) (sym (node_again t)) ∙ weighed-node sizes (head_of t) (parts_of t)
+    ∙ ap (λ (o : Option ℕ). weighed_by sizes o (head_of t) (map (weighed sizes) (parts_of t))) (same_parameter (head_of t) (weighed sizes) (parts_of t))
 
 -- the trees from number i on are still to be counted
 abbrev pub Counting : (Tree → ℕ) → List Tree → ℕ → ℕ → Type 0
@@ -53,6 +38,3 @@ nothing_more a total e le = omega arith
 
 pub counting_all : (f : Tree → ℕ) (ts : List Tree) (i total : ℕ) → Counting f ts i total → length ts ≤ i → total ≤ 4097 → total ≡ capped (sum_of (map f ts))
 counting_all f ts i total h le few = nothing_more (capped (sum_of (map f ts))) total (h ∙ ap (λ (l : List Tree). capped (total + sum_of (map f l))) (drop_all i ts le)) few
-
-pub none_size : (made : Option Made) → made ≡ None → 4097 ≡ capped (size (tree_or made))
-none_size made is = let limit : 4097 ≡ capped 4097 = omega arith in limit ∙ ap capped (sym too_large_size) ∙ ap (λ (o : Option Made). capped (size (tree_or o))) (sym is)

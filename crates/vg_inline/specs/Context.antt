@@ -1,98 +1,109 @@
 -- What is known where something is put in place of names.
-use Rattle.std.specs.Prelude.{ℕ, List, [], ◌∷◌, map, Option, Some, None, slice_get, slice_index_or}
-use Rattle.std.specs.Option.{option_map}
+use Rattle.std.specs.Prelude.{ℕ, List, [], ◌∷◌, map, Option, Some, None, slice_get}
 use Rattle.vg_ast.specs.declared.expr.Expr.{Expr}
-use Rattle.vg_ast.specs.declared.type_expr.TypeExpr.{TypeExpr}
 use Rattle.vg_ast.specs.declared.item.Item.{Item}
 use Rattle.vg_ast.specs.declared.item.Item.TheVariants as items
 use Rattle.vg_ast.specs.declared.parameter.Parameter.{Parameter}
-use Rattle.vg_names.specs.Definition.{fields_of_format}
-use Rattle.vg_order.specs.Numbers.{number_named}
+use Rattle.vg_ast.specs.declared.statement.Statement.{Statement}
+use Rattle.vg_ast.specs.declared.type_expr.TypeExpr.{TypeExpr}
+use Rattle.vg_names.specs.Definition.{Text, fields_of_format}
+use Rattle.vg_order.specs.Worked.{value_by}
 use Rattle.vg_whole.specs.declared.worth.Worth.{Worth}
-use Rattle.vg_whole.specs.Whole.{Inner, Constants, whole_of}
+use Rattle.vg_whole.specs.Whole.{Inner, Constants}
 use Rattle.vg_whole.specs.Worths.{constants_by}
+use Rattle.vg_inline.specs.declared.context.Context.{Context}
 use Rattle.vg_inline.specs.declared.declared.Declared.{Declared}
 use Rattle.vg_inline.specs.declared.declared.Declared.TheVariants as type
-use Rattle.vg_inline.specs.declared.tree.Tree.{Tree}
-use Rattle.vg_inline.specs.declared.tree.Tree.TheVariants as tree
-use Rattle.vg_inline.specs.declared.made.Made.{Made}
-use Rattle.vg_inline.specs.declared.context.Context.{Context}
+use Rattle.vg_inline.specs.declared.head.Head.TheVariants as heads
+use Rattle.vg_inline.specs.declared.kept.Kept.{Kept}
+use Rattle.vg_inline.specs.declared.kept.KeptEffect.{KeptEffect}
+use Rattle.vg_inline.specs.declared.value.Value.{Value}
+use Rattle.vg_inline.specs.declared.bindings.Bindings.{Bindings, Nothing as NoBinding, Let' as Binding}
 use Rattle.vg_inline.specs.declared.names.Names.{Names, Nothing, Fields, Parameters, Let'}
 use Rattle.vg_inline.specs.declared.found.Found.{Found}
 use Rattle.vg_inline.specs.declared.found.Found.TheVariants as found
-use Rattle.vg_inline.specs.declared.bindings.Bindings.{Bindings, Nothing as NoBinding, Let' as Binding}
-use Rattle.vg_inline.specs.InPlace.{Placed, typed, placed, moved, taking, Aliases, Templates, Known, type_of, type_worths, parameter_places, field_places}
-use Rattle.vg_inline.specs.Made.{tree_or, place_of}
+use Rattle.vg_inline.specs.Types.{Aliases, declared_type}
+use Rattle.vg_inline.specs.Inline.{Known, typed, inlined, parameter_values, field_values, constant_or, tree_of}
+use Rattle.vg_inline.specs.Behaviour.{effect_of, behaviour_by}
+use Rattle.vg_inline.specs.Kept.{keeping, kept_node, kept_missing, stating}
 
-abbrev pub alias_at : List Declared → Option ℕ → Declared
-alias_at list None = type.Bool
-alias_at list (Some number) = slice_index_or list number type.Bool
+abbrev pub Kepts : Type 0
+Kepts = Value (Option Kept)
 
 -- what aliases stand for, where the list has one for each item
 abbrev pub aliases_by : List Item → List Declared → Aliases
-aliases_by all list text = alias_at list (number_named all text)
-
-abbrev pub made_numbered : List (Option Made) → Option ℕ → Option (Option Made)
-made_numbered list None = None
-made_numbered list (Some number) = slice_get list number
+aliases_by all list = value_by type.Bool all list
 
 -- the bodies of functions, where the list has one for each item
-abbrev pub templates_by : List Item → List (Option Made) → Templates
-templates_by all list text = option_map tree_or (made_numbered list (number_named all text))
+abbrev pub bodies_by : List Item → List (Option Kept) → Text → Option Kept
+bodies_by all list = value_by kept_missing all list
 
 abbrev pub items_of : Context → List Item
 items_of x = x.table.now.items.now
 
-abbrev pub constants_of : Context → Constants
-constants_of x = constants_by (items_of x) x.worths.now
+abbrev pub constants_in : Context → Constants
+constants_in x = constants_by (items_of x) x.worths.now
 
-abbrev pub aliases_of : Context → Aliases
-aliases_of x = aliases_by (items_of x) x.aliases.now
+abbrev pub aliases_in : Context → Aliases
+aliases_in x = aliases_by (items_of x) x.aliases.now
 
-abbrev pub known_in : Context → Known
-known_in x = record { constants = constants_of x; aliases = aliases_of x; templates = templates_by (items_of x) x.templates.now }
+abbrev pub known_by : List Item → Constants → Aliases → List (Option Kept) → Known (Option Kept)
+known_by all constants aliases bodies = record { constants = constants; aliases = aliases; bodies = bodies_by all bodies }
+
+abbrev pub known_in : Context → Known (Option Kept)
+known_in x = known_by (items_of x) (constants_in x) (aliases_in x) x.bodies.now
 
 -- what the inner names stand for
-abbrev pub inner_in : List Item → List Parameter → Names → Inner Placed
+abbrev pub inner_in : List Item → List Parameter → Names → Inner Kepts
 inner_in all parameters Nothing = []
-inner_in all parameters (Fields format) = field_places 0 (fields_of_format (slice_get all format))
-inner_in all parameters Parameters = parameter_places 0 parameters
-inner_in all parameters (Let' name inlined p outer) = (name.now.text, place_of inlined.now) ∷ inner_in all parameters outer
+inner_in all parameters (Fields format) = field_values keeping 0 (fields_of_format (slice_get all format))
+inner_in all parameters Parameters = parameter_values keeping 0 parameters
+inner_in all parameters (Let' name value p outer) = (name.now.text, value.now) ∷ inner_in all parameters outer
 
-abbrev pub inner_at : Context → Names → Inner Placed
+abbrev pub inner_at : Context → Names → Inner Kepts
 inner_at x names = inner_in (items_of x) x.parameters.now names
 
-abbrev pub placed_at : Context → Names → Expr → Placed
-placed_at x names e = placed (items_of x) (known_in x) e (inner_at x names)
+-- an expression, a statement and an item with everything in place
 
-abbrev pub found_place : Found → Placed
-found_place (found.Field k) = typed (tree.Field k 0)
-found_place (found.Parameter k) = typed (tree.Parameter k 0)
-found_place (found.Bound inlined) = place_of inlined.now
+abbrev pub inlined_at : Context → Names → Expr → Kepts
+inlined_at x names e = inlined keeping (items_of x) (known_in x) e (inner_at x names)
+
+abbrev pub tree_at : Context → Names → Expr → Option Kept
+tree_at x names e = (inlined_at x names e).tree
+
+abbrev pub effect_at : Context → Names → Statement → Option KeptEffect
+effect_at x names s = effect_of stating (items_of x) (known_in x) s (inner_at x names)
+
+abbrev pub joined : {X : Type 0} → Option (Option X) → Option X
+joined None = None
+joined (Some x) = x
+
+abbrev pub behaviour_at : Context → Item → Option (Option KeptEffect)
+behaviour_at x item = behaviour_by stating (items_of x) (known_in x) item
+
+abbrev pub found_value : Found → Kepts
+found_value (found.Field k) = typed (kept_node (heads.Field k) [])
+found_value (found.Parameter k) = typed (kept_node (heads.Parameter k) [])
+found_value (found.Bound value) = value.now
 
 -- the parameters of a function
 abbrev pub parameters_called : Option Item → Option (List Parameter)
 parameters_called (Some (items.Function at name parameters result body)) = Some parameters
 parameters_called _ = None
 
-abbrev pub binding_worths : Bindings → Inner Worth
-binding_worths NoBinding = []
-binding_worths (Binding name worth p outer) = (name.now.text, worth) ∷ binding_worths outer
-
--- a type in which nothing is put in place of inner names
+-- a type outside of expressions
 abbrev pub declared_in : Context → TypeExpr Expr → Declared
-declared_in x t = type_of (aliases_of x) (type_worths (λ e. whole_of (constants_of x) e []) t)
-
--- what an inner name stands for, at the place of the name
-abbrev pub moved_place : ℕ → Placed → Placed
-moved_place at p = record { worth = p.worth; tree = moved at p.tree }
-
-abbrev pub trees_at : Context → Names → List Expr → List Tree
-trees_at x names expressions = map (λ e. (placed_at x names e).tree) expressions
-
-abbrev pub taken_at : (Parameter → Declared) → Option Parameter → Tree → Tree
-taken_at declared None t = t
-taken_at declared (Some parameter) t = taking (declared parameter) t
+declared_in x t = declared_type (constants_in x) (aliases_in x) t
 
 abbrev pub parameter_type : Context → Parameter → Declared
 parameter_type x parameter = declared_in x parameter.declared
+
+-- an argument in place of a parameter, if there is one
+abbrev pub taken_at : (Parameter → Declared) → Option Parameter → Kepts → Option Kept
+taken_at declared None v = v.tree
+taken_at declared (Some parameter) v = constant_or keeping (declared parameter) v.worth v.tree
+
+-- the worths of the names of `let`s around a place in a declared type
+abbrev pub binding_worths : Bindings → Inner Worth
+binding_worths NoBinding = []
+binding_worths (Binding name worth p outer) = (name.now.text, worth) ∷ binding_worths outer

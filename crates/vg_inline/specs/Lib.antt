@@ -1,8 +1,9 @@
-pub mod InPlace
 pub mod Size
-pub mod Made
+pub mod Instantiate
+pub mod Types
+pub mod Inline
+pub mod Behaviour
+pub mod Kept
 pub mod Context
-pub mod Templates
-pub mod Effects
-pub mod Known
-pub mod Behaviours
+pub mod InPlace
+pub mod KeptBehaviour

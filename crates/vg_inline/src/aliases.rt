@@ -1,10 +1,9 @@
-ghost use Rattle.std.specs.Prelude.{◌≡◌, [], Some, IfOk, length};
+ghost use Rattle.std.specs.Prelude.{◌≡◌, [], Some, IfOk};
 ghost use Rattle.vg_names.specs.Duplicate.{duplicates};
 ghost use Rattle.vg_order.specs.Cyclic.{IsOrder};
 ghost use Rattle.vg_whole.specs.Worths.{constants_by};
 ghost use Rattle.vg_inline.specs.Context.{aliases_by};
-ghost use Rattle.vg_inline.specs.InPlace.{alias_of};
-ghost use Rattle.vg_inline.specs.Known.{without_templates, ordered_aliases};
+ghost use Rattle.vg_inline.specs.Types.{alias_step, aliases_of};
 
 use crate::Declared;
 use crate::context::Context;
@@ -17,7 +16,7 @@ use vg_whole::Worth;
 
 /// What the name of an item stands for in a type, where the aliases that it uses are known.
 fn alias_of_item(item: &Item, table: &Table, worths: &[Worth], aliases: &[Declared]) -> Declared
-    ensures { result ≡ alias_of (without_templates (constants_by table.now.items.now worths.now) (aliases_by table.now.items.now aliases.now)) (Some item.now) }
+    ensures { result ≡ alias_step (constants_by table.now.items.now worths.now) (aliases_by table.now.items.now aliases.now) (Some item.now) }
 {
     match item {
         Item::Using { meaning, .. } => {
@@ -25,7 +24,7 @@ fn alias_of_item(item: &Item, table: &Table, worths: &[Worth], aliases: &[Declar
                 table,
                 worths,
                 aliases,
-                templates: &[],
+                bodies: &[],
                 parameters: &[],
             };
             declared_type(meaning, &context)
@@ -35,7 +34,7 @@ fn alias_of_item(item: &Item, table: &Table, worths: &[Worth], aliases: &[Declar
 }
 
 /// What each alias stands for, at its number, where this is an order of what is put in place of its name.
-pub fn aliases(
+pub fn work_out_aliases(
     alloc: Global,
     description: &Desc,
     table: &Table,
@@ -45,7 +44,7 @@ pub fn aliases(
     requires items { table.now.items.now ≡ description.now.items }
     requires distinct { duplicates description.now ≡ [] }
     requires order { IsOrder description.now.items order.now }
-    ensures { let all = description.now.items in IfOk result (λ aliases. aliases_by all aliases ≡ ordered_aliases all (constants_by all worths.now) order.now) }
+    ensures { let all = description.now.items in IfOk result (λ aliases. aliases_by all aliases ≡ aliases_of all (constants_by all worths.now)) }
 {
     let mut aliases = vec![in alloc; Declared::Bool; table.items.len()]?;
     for number in order {

@@ -1,11 +1,13 @@
-ghost use Rattle.std.specs.Prelude.{◌≡◌, slice_index_or, slice_get};
-ghost use Rattle.vg_inline.specs.Context.{alias_at, aliases_of, constants_of, declared_in, items_of};
-ghost use Rattle.vg_inline.specs.InPlace.{number_or};
+ghost use Rattle.std.specs.Prelude.{◌≡◌};
 ghost use Rattle.vg_order.specs.Numbers.{number_named};
+ghost use Rattle.vg_order.specs.Worked.{value_at};
+ghost use Rattle.vg_inline.specs.declared.declared.Declared.TheVariants.{Bool as BoolType};
+ghost use Rattle.vg_inline.specs.Context.{aliases_in, constants_in, items_of};
+ghost use Rattle.vg_inline.specs.Inline.{number_or};
 ghost use Rattle.vg_whole.specs.Worths.{worth_at as worth_by};
 
-use crate::made::Made;
-use crate::{Declared, Tree};
+use crate::Declared;
+use crate::kept::Kept;
 use vg_ast::Parameter;
 use vg_names::Table;
 use vg_whole::Worth;
@@ -19,7 +21,7 @@ pub struct Context<'a> {
     /// What each alias stands for, at its number.
     pub aliases: &'a [Declared],
     /// The body of each function with everything but its parameters in place, at its number.
-    pub templates: &'a [Option<Made>],
+    pub bodies: &'a [Option<Kept>],
     /// The parameters of the function that the expression is the body of.
     pub parameters: &'a [Parameter],
 }
@@ -35,13 +37,13 @@ fn worth_at(worths: &[Worth], number: Option<usize>) -> Worth
 
 /// What the name of an item is worth.
 pub fn constant(context: &Context, text: &[char]) -> Worth
-    ensures { result ≡ constants_of context.now text.now }
+    ensures { result ≡ constants_in context.now text.now }
 {
     worth_at(context.worths, context.table.number(text))
 }
 
 fn declared_at(aliases: &[Declared], number: Option<usize>) -> Declared
-    ensures { result ≡ alias_at aliases.now number }
+    ensures { result ≡ value_at BoolType aliases.now number }
 {
     match number {
         None => Declared::Bool,
@@ -51,7 +53,7 @@ fn declared_at(aliases: &[Declared], number: Option<usize>) -> Declared
 
 /// What the name of an alias stands for.
 pub fn alias(context: &Context, text: &[char]) -> Declared
-    ensures { result ≡ aliases_of context.now text.now }
+    ensures { result ≡ aliases_in context.now text.now }
 {
     declared_at(context.aliases, context.table.number(text))
 }

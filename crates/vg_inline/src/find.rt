@@ -4,8 +4,9 @@ ghost use Rattle.std.specs.Str.{bytes_eq};
 ghost use Rattle.vg_ast.specs.declared.field.Field.{Field as FieldOf};
 ghost use Rattle.vg_names.specs.Definition.{fields_of_format, item_named};
 ghost use Rattle.vg_whole.specs.Whole.{inner_of};
-ghost use Rattle.vg_inline.specs.InPlace.{callee_of, field_places, parameter_places};
-ghost use Rattle.vg_inline.specs.Context.{inner_at, found_place, items_of, parameters_called};
+ghost use Rattle.vg_inline.specs.Inline.{callee_of, field_values, parameter_values};
+ghost use Rattle.vg_inline.specs.Context.{inner_at, found_value, items_of, parameters_called};
+ghost use Rattle.vg_inline.specs.Kept.{keeping};
 
 use crate::context::Context;
 use crate::found::Found;
@@ -20,7 +21,7 @@ fn is_named(name: &Name, text: &[char]) -> bool
 
 /// The first field of a name.
 fn field_named(fields: &[Field], text: &[char]) -> Option<Found<'static>>
-    ensures { option_map found_place result ≡ inner_of (field_places 0 (map (λ (field : FieldOf). field.name.text) fields.now)) text.now }
+    ensures { option_map found_value result ≡ inner_of (field_values keeping 0 (map (λ (field : FieldOf). field.name.text) fields.now)) text.now }
 {
     for (number, field) in fields.iter().enumerate() {
         if is_named(&field.name, text) {
@@ -32,7 +33,7 @@ fn field_named(fields: &[Field], text: &[char]) -> Option<Found<'static>>
 
 /// The first parameter of a name.
 fn parameter_named(parameters: &[Parameter], text: &[char]) -> Option<Found<'static>>
-    ensures { option_map found_place result ≡ inner_of (parameter_places 0 parameters.now) text.now }
+    ensures { option_map found_value result ≡ inner_of (parameter_values keeping 0 parameters.now) text.now }
 {
     for (number, parameter) in parameters.iter().enumerate() {
         if is_named(&parameter.name, text) {
@@ -44,7 +45,7 @@ fn parameter_named(parameters: &[Parameter], text: &[char]) -> Option<Found<'sta
 
 /// The first field of a name in the format of a number.
 fn field_of(items: &[Item], format: usize, text: &[char]) -> Option<Found<'static>>
-    ensures { option_map found_place result ≡ inner_of (field_places 0 (fields_of_format (slice_get items.now format))) text.now }
+    ensures { option_map found_value result ≡ inner_of (field_values keeping 0 (fields_of_format (slice_get items.now format))) text.now }
 {
     match items.get(format) {
         Some(Item::Format { fields, .. }) => field_named(fields.as_slice(), text),
@@ -54,7 +55,7 @@ fn field_of(items: &[Item], format: usize, text: &[char]) -> Option<Found<'stati
 
 /// What an inner name stands for; None where a name is none of them.
 pub fn find<'a>(text: &[char], names: &Names<'a>, context: &Context) -> Option<Found<'a>>
-    ensures { option_map found_place result ≡ inner_of (inner_at context.now names.now) text.now }
+    ensures { option_map found_value result ≡ inner_of (inner_at context.now names.now) text.now }
 {
     match names {
         Names::Nothing => None,
@@ -62,11 +63,11 @@ pub fn find<'a>(text: &[char], names: &Names<'a>, context: &Context) -> Option<F
         Names::Parameters => parameter_named(context.parameters, text),
         Names::Let {
             name,
-            inlined,
+            value,
             outer,
         } => {
             if name.text.as_slice() == text {
-                Some(Found::Bound(*inlined))
+                Some(Found::Bound(*value))
             } else {
                 find(text, outer, context)
             }

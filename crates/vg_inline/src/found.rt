@@ -1,4 +1,5 @@
-use crate::inlined::Inlined;
+use crate::Value;
+use crate::kept::Kept;
 
 /// What an inner name stands for.
 #[derive(Clone, Copy)]
@@ -8,5 +9,5 @@ pub enum Found<'a> {
     /// The parameter of this number.
     Parameter(usize),
     /// What a `let` binds.
-    Bound(&'a Inlined),
+    Bound(&'a Value<Option<Kept>>),
 }

@@ -1,127 +1,428 @@
-//! What each instruction does.
-ghost use Rattle.std.specs.Prelude.{◌≡◌, List, [], map, IfOk};
-ghost use Rattle.vg_names.specs.Definition.{fields_of_format, item_named};
-ghost use Rattle.vg_names.specs.Duplicate.{duplicates};
-ghost use Rattle.vg_order.specs.Cyclic.{IsOrder};
-ghost use Rattle.vg_whole.specs.Worths.{constants_by, AreWorths};
-ghost use Rattle.vg_ast.specs.declared.parameter.Parameter.{Parameter as AnyParameter};
-ghost use Rattle.vg_inline.specs.InPlace.{field_places};
-ghost use Rattle.vg_inline.specs.Context.{aliases_by, inner_in, items_of};
-ghost use Rattle.vg_inline.specs.Effects.{behaviour_at, behaviour_kept};
-ghost use Rattle.vg_inline.specs.Templates.{known_with, nothing_worked_out, worked_along};
-ghost use Rattle.vg_inline.specs.Behaviours.{AreBehaviours};
+//! Expressions with everything in place of their names.
+ghost use Rattle.std.specs.Prelude.{◌≡◌, ◌∷◌, [], map, slice_get, IfOk};
+ghost use Rattle.std.specs.Option.{option_copied};
+ghost use Rattle.vg_ast.specs.Start.{start_of as start_of_expression};
+ghost use Rattle.vg_names.specs.Definition.{item_named};
+ghost use Rattle.vg_order.specs.Numbers.{number_named};
+ghost use Rattle.vg_order.specs.Worked.{value_at};
+ghost use Rattle.vg_whole.specs.Whole.{binary_whole, inner_of};
+ghost use Rattle.vg_inline.specs.declared.head.Head.TheVariants.{Binary};
+ghost use Rattle.vg_inline.specs.Types.{type_of, type_worths};
+ghost use Rattle.vg_inline.specs.Inline.{called, callee_of, constant_or as constant_or_of, first_start as first_start_of, named_value, number_or, taking_types, typed as typed_of, whole_or as whole_or_of};
+ghost use Rattle.vg_inline.specs.Kept.{added as added_of, gathered, keeping, kept_argument, kept_call, kept_missing, kept_node, no_trees as no_trees_of};
+ghost use Rattle.vg_inline.specs.Context.{Kepts, aliases_in, constants_in, found_value, inlined_at, inner_at, items_of, known_in, parameter_type, taken_at, tree_at};
 
-use crate::aliases::aliases;
-use crate::context::Context;
-use crate::made::Made;
+use crate::calling::call;
+use crate::context::{Context, alias, constant, number};
+use crate::copying::copy_kept;
+use crate::find::{find, function_called};
+use crate::found::Found;
+use crate::keeping::{added, leaf, missing, no_trees, node};
+use crate::kept::{Kept, KeptList};
 use crate::names::Names;
-use crate::stating::state;
-use crate::templates::templates;
-use crate::{Declared, Effect, InPlace};
+use crate::whole::declared_type;
+use crate::{Declared, Head, Value};
 use sqlite_items::{Boxed, Items};
 use std::alloc::{AllocError, Global};
-use vg_ast::{Desc, Item, Name};
-use vg_names::Table;
-use vg_whole::Worth;
+use vg_ast::{BinaryOperator, Expr, Name, Parameter, TypeExpr, start_of};
+use vg_whole::{Worth, worth_of_binary};
 
-/// The fields of a format of this name.
-#[tactic(auto, using(crate::proofs::BehaviourLemmas::format_missing, crate::proofs::BehaviourLemmas::format_found))]
-fn fields_in(format: &Name, context: &Context) -> Names<'static>
-    ensures { (parameters : List AnyParameter) → inner_in (items_of context.now) parameters result ≡ field_places 0 (fields_of_format (item_named (items_of context.now) format.now.text)) }
+/// What has a type.
+fn typed(tree: Option<Kept>) -> Value<Option<Kept>>
+    ensures { result ≡ typed_of tree }
 {
-    match context.table.number(format.text.as_slice()) {
-        None => Names::Nothing,
-        Some(number) => Names::Fields(number),
+    Value {
+        worth: Worth::Typed,
+        tree,
     }
 }
 
-/// What an item does, where it is an instruction; None where an expression in it has too many nodes.
-fn behaviour(
-    alloc: Global,
-    item: &Item,
-    context: &Context,
-) -> Result<Option<Boxed<Effect>>, AllocError>
-    ensures { IfOk result (λ effect. effect ≡ behaviour_at context.now item.now) }
+/// One node in place of a whole number, whatever it was worked out from.
+fn whole_or(alloc: Global, worth: Worth, tree: Option<Kept>) -> Option<Kept>
+    ensures { result ≡ whole_or_of keeping worth tree }
 {
-    match item {
-        Item::Instruction {
-            format,
-            behaviour,
+    match worth {
+        Worth::Whole(value) => leaf(alloc, Head::Whole { value: Some(value) }),
+        Worth::NoValue => leaf(alloc, Head::Whole { value: None }),
+        Worth::Typed => tree,
+    }
+}
+
+/// A whole number takes the type that is declared where it stands.
+pub(crate) fn constant_or(
+    alloc: Global,
+    declared: Declared,
+    worth: Worth,
+    tree: Option<Kept>,
+) -> Option<Kept>
+    ensures { result ≡ constant_or_of keeping declared worth tree }
+{
+    match worth {
+        Worth::Whole(value) => leaf(
+            alloc,
+            Head::Constant {
+                value: Some(value),
+                declared,
+            },
+        ),
+        Worth::NoValue => leaf(
+            alloc,
+            Head::Constant {
+                value: None,
+                declared,
+            },
+        ),
+        Worth::Typed => tree,
+    }
+}
+
+/// What an inner name stands for, where it is used.
+fn inline_found(alloc: Global, found: Found) -> Result<Value<Option<Kept>>, AllocError>
+    ensures { IfOk result (λ value. value ≡ found_value found.entry) }
+{
+    match found {
+        Found::Field(field) => Ok(typed(leaf(alloc, Head::Field { field }))),
+        Found::Parameter(parameter) => Ok(typed(leaf(alloc, Head::Parameter { parameter }))),
+        Found::Bound(value) => {
+            let tree = copy_kept(alloc, &value.tree)?;
+            Ok(Value {
+                worth: value.worth,
+                tree,
+            })
+        }
+    }
+}
+
+/// What stands in place of a name.
+fn inline_name(
+    alloc: Global,
+    text: &[char],
+    context: &Context,
+    names: &Names,
+) -> Result<Value<Option<Kept>>, AllocError>
+    ensures { IfOk result (λ value. value ≡ named_value keeping (inner_of (inner_at context.now names.now) text.now) (constants_in context.now text.now) (number_or (number_named (items_of context.now) text.now))) }
+{
+    match find(text, names, context) {
+        Some(found) => inline_found(alloc, found),
+        None => {
+            let worth = constant(context, text);
+            let item = number(context, text);
+            let tree = whole_or(alloc, worth, leaf(alloc, Head::Resource { item }));
+            Ok(Value { worth, tree })
+        }
+    }
+}
+
+/// The body of the item of a number.
+fn body_at<'a>(bodies: &'a [Option<Kept>], number: Option<usize>) -> Option<&'a Option<Kept>>
+    ensures { kept_argument (option_copied result) ≡ value_at kept_missing bodies.now number }
+{
+    match number {
+        None => None,
+        Some(number) => bodies.get(number),
+    }
+}
+
+/// A call of the function of a name.
+fn inline_body(
+    alloc: Global,
+    text: &[char],
+    arguments: &[Option<Kept>],
+    context: &Context,
+) -> Result<Option<Kept>, AllocError>
+    ensures { IfOk result (λ tree. tree ≡ kept_call arguments.now ((known_in context.now).bodies text.now)) }
+{
+    match body_at(context.bodies, context.table.number(text)) {
+        None => call(alloc, arguments, &missing(alloc)),
+        Some(body) => call(alloc, arguments, body),
+    }
+}
+
+fn parameter_at(parameters: &[Parameter], position: usize) -> Option<&Parameter>
+    ensures { option_copied result ≡ slice_get parameters.now position }
+{
+    parameters.get(position)
+}
+
+/// An argument takes the type of its parameter.
+fn take_type(
+    alloc: Global,
+    value: Value<Option<Kept>>,
+    parameters: &[Parameter],
+    position: usize,
+    context: &Context,
+) -> Option<Kept>
+    ensures { result ≡ taken_at (parameter_type context.now) (slice_get parameters.now position) value }
+{
+    match parameter_at(parameters, position) {
+        None => value.tree,
+        Some(parameter) => {
+            let declared = declared_type(&parameter.declared, context);
+            constant_or(alloc, declared, value.worth, value.tree)
+        }
+    }
+}
+
+/// The place of the first of these expressions, or of the name where there is none.
+fn first_start(at: usize, expressions: &[Expr]) -> usize
+    ensures { result ≡ first_start_of at (map start_of_expression expressions.now) }
+{
+    match expressions {
+        [] => at,
+        [first, ..] => start_of(first),
+    }
+}
+
+/// An operator between two values.
+fn operate(
+    alloc: Global,
+    operator: BinaryOperator,
+    left: Value<Option<Kept>>,
+    right: Value<Option<Kept>>,
+) -> Result<Value<Option<Kept>>, AllocError>
+    ensures worth { IfOk result (λ value. value.worth ≡ binary_whole operator left.worth right.worth) }
+    ensures tree { IfOk result (λ value. value.tree ≡ whole_or_of keeping (binary_whole operator left.worth right.worth) (kept_node (Binary operator) (left.tree ∷ right.tree ∷ []))) }
+{
+    let worth = worth_of_binary(operator, left.worth, right.worth);
+    let parts = added(no_trees(alloc), left.tree)?;
+    let parts = added(parts, right.tree)?;
+    let tree = node(Head::Binary { operator }, parts);
+    Ok(Value {
+        worth,
+        tree: whole_or(alloc, worth, tree),
+    })
+}
+
+/// An expression with everything in place of its names.
+#[cycle(inline)]
+#[tactic(auto, using(crate::proofs::InlineLemmas::inline_steps))]
+pub(crate) fn inline(
+    alloc: Global,
+    e: &Expr,
+    context: &Context,
+    names: &Names,
+) -> Result<Value<Option<Kept>>, AllocError>
+    ensures { IfOk result (λ value. value ≡ inlined_at context.now names.now e.now) }
+{
+    match e {
+        Expr::Number { value, .. } => Ok(Value {
+            worth: Worth::Whole(*value),
+            tree: leaf(alloc, Head::Whole { value: Some(*value) }),
+        }),
+        Expr::Name(name) => inline_name(alloc, name.text.as_slice(), context, names),
+        Expr::Call { name, arguments } => {
+            inline_call(alloc, name, arguments.as_slice(), context, names)
+        }
+        Expr::Access {
+            memory,
+            size,
+            address,
             ..
         } => {
-            let names = fields_in(format, context);
-            state(alloc, behaviour.get(), context, &names)
+            let size = inline(alloc, size.get(), context, names)?;
+            let head = Head::Access {
+                at: memory.at,
+                size: size.worth,
+                address_at: start_of(address.get()),
+            };
+            inline_one(alloc, head, address.get(), context, names)
         }
-        _ => Ok(None),
+        Expr::Join { high, low, .. } => {
+            let parts = inline_part(alloc, high.get(), no_trees(alloc), context, names)?;
+            let parts = inline_part(alloc, low.get(), parts, context, names)?;
+            Ok(typed(node(Head::Join, parts)))
+        }
+        Expr::Parentheses { inner, .. } => inline(alloc, inner.get(), context, names),
+        Expr::Unary {
+            operator,
+            operand,
+            ..
+        } => {
+            let head = Head::Unary {
+                operator: *operator,
+            };
+            inline_one(alloc, head, operand.get(), context, names)
+        }
+        Expr::Binary {
+            operator,
+            left,
+            right,
+            ..
+        } => {
+            let left = inline(alloc, left.get(), context, names)?;
+            let right = inline(alloc, right.get(), context, names)?;
+            operate(alloc, *operator, left, right)
+        }
+        Expr::Cast {
+            operand,
+            target,
+            ..
+        } => {
+            let target = inline_type(alloc, target, context, names)?;
+            inline_one(alloc, Head::Cast { target }, operand.get(), context, names)
+        }
+        Expr::Slice {
+            operand,
+            high,
+            low,
+            ..
+        } => {
+            let high = inline(alloc, high.get(), context, names)?;
+            let low = inline(alloc, low.get(), context, names)?;
+            let head = Head::Slice {
+                high: high.worth,
+                low: low.worth,
+            };
+            inline_one(alloc, head, operand.get(), context, names)
+        }
+        Expr::If {
+            condition,
+            then,
+            otherwise,
+            ..
+        } => {
+            let parts = inline_part(alloc, condition.get(), no_trees(alloc), context, names)?;
+            let parts = inline_part(alloc, then.get(), parts, context, names)?;
+            let parts = inline_part(alloc, otherwise.get(), parts, context, names)?;
+            Ok(typed(node(Head::If, parts)))
+        }
+        Expr::Let {
+            name,
+            bound,
+            body,
+            ..
+        } => {
+            let value = inline(alloc, bound.get(), context, names)?;
+            let within = Names::Let {
+                name,
+                value: &value,
+                outer: &*names,
+            };
+            inline(alloc, body.get(), context, &within)
+        }
     }
 }
 
-/// What each item does, where it is an instruction.
-fn behaviours_in(
+/// What stands in place of an expression, behind other parts of a node; nothing is made behind too many.
+#[cycle(inline)]
+pub(crate) fn inline_part(
     alloc: Global,
+    e: &Expr,
+    parts: Option<KeptList>,
     context: &Context,
-) -> Result<Items<Option<Boxed<Effect>>>, AllocError>
-    ensures { IfOk result (λ effects. effects ≡ map (behaviour_at context.now) (items_of context.now)) }
+    names: &Names,
+) -> Result<Option<KeptList>, AllocError>
+    ensures { IfOk result (λ longer. longer ≡ added_of parts (tree_at context.now names.now e.now)) }
 {
-    let mut effects = Items::new(alloc);
-    for item in context.table.items {
-        effects.push(behaviour(alloc, item, context)?)?;
+    match parts {
+        None => Ok(None),
+        Some(parts) => {
+            let value = inline(alloc, e, context, names)?;
+            added(Some(parts), value.tree)
+        }
     }
-    Ok(effects)
 }
 
-/// What each item does, with these aliases and bodies of functions.
-fn behaviours_with(
+/// A node over one part.
+#[cycle(inline)]
+fn inline_one(
     alloc: Global,
-    table: &Table,
-    worths: &[Worth],
-    aliases: &[Declared],
-    templates: &[Option<Made>],
-) -> Result<Items<Option<Boxed<Effect>>>, AllocError>
-    ensures { let all = table.now.items.now in IfOk result (λ effects. effects ≡ map (behaviour_kept all (known_with all (constants_by all worths.now) (aliases_by all aliases.now) templates.now)) all) }
+    head: Head,
+    part: &Expr,
+    context: &Context,
+    names: &Names,
+) -> Result<Value<Option<Kept>>, AllocError>
+    ensures { IfOk result (λ value. value ≡ typed_of (kept_node head (tree_at context.now names.now part.now ∷ []))) }
 {
-    let context = Context {
-        table,
-        worths,
-        aliases,
-        templates,
-        parameters: &[],
-    };
-    behaviours_in(alloc, &context)
+    let parts = inline_part(alloc, part, no_trees(alloc), context, names)?;
+    Ok(typed(node(head, parts)))
 }
 
-/// What each item does, with these aliases, where the bodies of functions are worked out along the order.
-fn behaviours_along(
+/// The type of a cast.
+#[cycle(inline)]
+fn inline_type(
     alloc: Global,
-    table: &Table,
-    order: &[usize],
-    worths: &[Worth],
-    aliases: &[Declared],
-) -> Result<Items<Option<Boxed<Effect>>>, AllocError>
-    ensures { let all = table.now.items.now in IfOk result (λ effects. effects ≡ map (behaviour_kept all (known_with all (constants_by all worths.now) (aliases_by all aliases.now) (worked_along all (constants_by all worths.now) (aliases_by all aliases.now) order.now (nothing_worked_out all)))) all) }
+    target: &TypeExpr<Boxed<Expr>>,
+    context: &Context,
+    names: &Names,
+) -> Result<Declared, AllocError>
+    ensures { IfOk result (λ declared. declared ≡ type_of (aliases_in context.now) (type_worths (λ e. (inlined_at context.now names.now e).worth) target.now)) }
 {
-    let templates = templates(alloc, table, order, worths, aliases)?;
-    behaviours_with(alloc, table, worths, aliases, templates.as_slice())
+    match target {
+        TypeExpr::Sized { kind, width, .. } => {
+            let width = inline(alloc, width.get(), context, names)?;
+            Ok(Declared::Sized {
+                kind: *kind,
+                width: width.worth,
+            })
+        }
+        TypeExpr::Bool { .. } => Ok(Declared::Bool),
+        TypeExpr::Alias(name) => Ok(alias(context, name.text.as_slice())),
+    }
 }
 
-/// What aliases stand for and what each instruction does, with everything in place of their names.
-pub fn put_in_place(
+/// A call of a function, or a register of a register file.
+#[cycle(inline)]
+fn inline_call(
     alloc: Global,
-    description: &Desc,
-    table: &Table,
-    order: &[usize],
-    worths: &[Worth],
-) -> Result<InPlace, AllocError>
-    requires distinct { duplicates description.now ≡ [] }
-    requires table { table.now.items.now ≡ description.now.items }
-    requires order { IsOrder description.now.items order.now }
-    requires worths { AreWorths description.now.items worths.now }
-    ensures { IfOk result (AreBehaviours description.now worths.now) }
+    name: &Name,
+    arguments: &[Expr],
+    context: &Context,
+    names: &Names,
+) -> Result<Value<Option<Kept>>, AllocError>
+    ensures { IfOk result (λ value. value ≡ typed_of (called keeping (items_of context.now) (known_in context.now) (callee_of (inner_of (inner_at context.now names.now) name.now.text) (item_named (items_of context.now) name.now.text)) name.now (first_start_of name.now.at (map start_of_expression arguments.now)) (map (inlined_at context.now names.now) arguments.now))) }
 {
-    let aliases = aliases(alloc, description, table, order, worths)?;
-    let behaviours = behaviours_along(alloc, table, order, worths, aliases.as_slice())?;
-    Ok(InPlace {
-        aliases,
-        behaviours,
-    })
+    match function_called(name.text.as_slice(), names, context) {
+        Some(parameters) => {
+            let list = inline_arguments(alloc, arguments, parameters, context, names)?;
+            let tree = inline_body(alloc, name.text.as_slice(), list.as_slice(), context)?;
+            Ok(typed(tree))
+        }
+        None => {
+            let list = inline_all(alloc, arguments, context, names)?;
+            let head = Head::Indexed {
+                item: number(context, name.text.as_slice()),
+                at: name.at,
+                index_at: first_start(name.at, arguments),
+            };
+            Ok(typed(node(head, list)))
+        }
+    }
+}
+
+/// The arguments of a function, each with the type of its parameter.
+#[cycle(inline)]
+fn inline_arguments(
+    alloc: Global,
+    arguments: &[Expr],
+    parameters: &[Parameter],
+    context: &Context,
+    names: &Names,
+) -> Result<Items<Option<Kept>>, AllocError>
+    ensures { IfOk result (λ list. list ≡ taking_types keeping (parameter_type context.now) parameters.now (map (inlined_at context.now names.now) arguments.now)) }
+{
+    let mut list = Items::new(alloc);
+    for (position, argument) in arguments.iter().enumerate() {
+        let value = inline(alloc, argument, context, names)?;
+        let tree = take_type(alloc, value, parameters, position, context);
+        list.push(tree)?;
+    }
+    Ok(list)
+}
+
+/// The index of a register.
+#[cycle(inline)]
+fn inline_all(
+    alloc: Global,
+    arguments: &[Expr],
+    context: &Context,
+    names: &Names,
+) -> Result<Option<KeptList>, AllocError>
+    ensures { IfOk result (λ list. list ≡ gathered no_trees_of (map (tree_at context.now names.now) arguments.now)) }
+{
+    let mut list = no_trees(alloc);
+    for argument in arguments {
+        list = inline_part(alloc, argument, list, context, names)?;
+    }
+    Ok(list)
 }

@@ -1,4 +1,5 @@
-use crate::inlined::Inlined;
+use crate::Value;
+use crate::kept::Kept;
 use vg_ast::Name;
 
 /// The inner names at a place, which hide those of items.
@@ -12,7 +13,7 @@ pub enum Names<'a> {
     /// The name of a `let`, before the names outside of it.
     Let {
         name: &'a Name,
-        inlined: &'a Inlined,
+        value: &'a Value<Option<Kept>>,
         outer: &'a Names<'a>,
     },
 }

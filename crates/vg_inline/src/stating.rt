@@ -1,80 +1,238 @@
 //! Statements with everything in place of their names.
-ghost use Rattle.std.specs.Prelude.{◌≡◌, map, IfOk};
-ghost use Rattle.vg_inline.specs.Context.{placed_at};
-ghost use Rattle.vg_inline.specs.Made.{within};
-ghost use Rattle.vg_inline.specs.Effects.{all_kept, assign_effect, effect_at, target_at};
+ghost use Rattle.std.specs.Prelude.{◌≡◌, ◌+◌, map, IfOk};
+ghost use Rattle.vg_ast.specs.Start.{start_of as start_of_expression};
+ghost use Rattle.vg_inline.specs.Behaviour.{target_of, target_parts};
+ghost use Rattle.vg_inline.specs.Kept.{added_effect as added_effect_of, assign_over, block_over, gathered, gathered_effects, keeping, kept_effect, kept_if, kept_if_else, no_effects as no_effects_of, no_trees as no_trees_of};
+ghost use Rattle.vg_inline.specs.Context.{effect_at, inner_at, items_of, known_in, tree_at};
 
 use crate::context::{Context, number};
-use crate::effect_level::{assign, behind, block, if_alone, if_else, index_target, memory_target};
+use crate::inlining::{inline, inline_part};
+use crate::keeping::{MOST_NODES, no_trees};
+use crate::kept::{Kept, KeptEffect, KeptEffects, KeptList};
 use crate::names::Names;
-use crate::placing::place;
 use crate::{Effect, Target};
 use sqlite_items::{Boxed, Items};
 use std::alloc::{AllocError, Global};
-use vg_ast::{Expr, Goal, Statement};
+use vg_ast::{Expr, Goal, Statement, start_of};
+
+fn no_effects(alloc: Global) -> Option<KeptEffects>
+    ensures { result ≡ no_effects_of }
+{
+    Some(KeptEffects {
+        effects: Items::new(alloc),
+        nodes: 0,
+    })
+}
+
+/// A statement behind others.
+fn added_effect(
+    list: Option<KeptEffects>,
+    effect: Option<KeptEffect>,
+) -> Result<Option<KeptEffects>, AllocError>
+    ensures { IfOk result (λ longer. longer ≡ added_effect_of list effect) }
+{
+    match (list, effect) {
+        (Some(mut list), Some(effect)) => {
+            let nodes = list.nodes.saturating_add(effect.nodes);
+            if nodes > MOST_NODES {
+                return Ok(None);
+            }
+            list.effects.push(effect.effect)?;
+            list.nodes = nodes;
+            Ok(Some(list))
+        }
+        _ => Ok(None),
+    }
+}
+
+/// Keeps a statement of so many nodes, unless they are too many.
+fn keep_effect(first: usize, second: usize, effect: Effect) -> Option<KeptEffect>
+    ensures { result ≡ kept_effect (first + second) effect }
+{
+    let nodes = first.saturating_add(second);
+    if nodes > MOST_NODES {
+        None
+    } else {
+        Some(KeptEffect { effect, nodes })
+    }
+}
+
+fn block(effects: Option<KeptEffects>) -> Option<KeptEffect>
+    ensures { result ≡ block_over effects }
+{
+    match effects {
+        None => None,
+        Some(list) => keep_effect(
+            list.nodes,
+            0,
+            Effect::Block {
+                effects: list.effects,
+            },
+        ),
+    }
+}
+
+fn choice_alone(
+    alloc: Global,
+    condition_at: usize,
+    condition: Option<Kept>,
+    then: Option<KeptEffect>,
+) -> Result<Option<KeptEffect>, AllocError>
+    ensures { IfOk result (λ it. it ≡ kept_if condition_at condition then) }
+{
+    match (condition, then) {
+        (Some(condition), Some(then)) => {
+            let nodes = condition.nodes.saturating_add(then.nodes);
+            let then = Boxed::new(alloc, then.effect)?;
+            let effect = Effect::If {
+                condition_at,
+                condition: condition.tree,
+                then,
+                otherwise: None,
+            };
+            Ok(keep_effect(1, nodes, effect))
+        }
+        _ => Ok(None),
+    }
+}
+
+fn choice(
+    alloc: Global,
+    condition_at: usize,
+    condition: Option<Kept>,
+    then: Option<KeptEffect>,
+    otherwise: Option<KeptEffect>,
+) -> Result<Option<KeptEffect>, AllocError>
+    ensures { IfOk result (λ it. it ≡ kept_if_else condition_at condition then otherwise) }
+{
+    match (condition, then, otherwise) {
+        (Some(condition), Some(then), Some(otherwise)) => {
+            let nodes = then.nodes.saturating_add(otherwise.nodes);
+            let nodes = condition.nodes.saturating_add(nodes);
+            let then = Boxed::new(alloc, then.effect)?;
+            let otherwise = Boxed::new(alloc, otherwise.effect)?;
+            let effect = Effect::If {
+                condition_at,
+                condition: condition.tree,
+                then,
+                otherwise: Some(otherwise),
+            };
+            Ok(keep_effect(1, nodes, effect))
+        }
+        _ => Ok(None),
+    }
+}
+
+fn assign(
+    target: Target,
+    parts: Option<KeptList>,
+    value_at: usize,
+    value: Option<Kept>,
+) -> Option<KeptEffect>
+    ensures { result ≡ assign_over target parts value_at value }
+{
+    match (parts, value) {
+        (Some(parts), Some(value)) => keep_effect(
+            parts.nodes,
+            value.nodes,
+            Effect::Assign {
+                target,
+                parts: parts.trees,
+                value_at,
+                value: value.tree,
+            },
+        ),
+        _ => None,
+    }
+}
 
 /// What a statement writes.
-fn place_goal(
+fn state_target(
     alloc: Global,
     goal: &Goal,
     context: &Context,
     names: &Names,
-) -> Result<Option<Target>, AllocError>
-    ensures { IfOk result (λ target. target ≡ target_at context.now names.now goal.now) }
+) -> Result<Target, AllocError>
+    ensures { IfOk result (λ target. target ≡ target_of keeping (items_of context.now) (known_in context.now) goal.now (inner_at context.now names.now)) }
 {
     match goal {
-        Goal::Name(name) => Ok(Some(Target::Resource {
+        Goal::Name(name) => Ok(Target::Resource {
             item: number(context, name.text.as_slice()),
             at: name.at,
-        })),
-        Goal::Indexed { name, index } => {
-            let item = number(context, name.text.as_slice());
-            let index = place(alloc, index.get(), context, names)?;
-            Ok(index_target(item, name.at, index.made))
-        }
+        }),
+        Goal::Indexed { name, index } => Ok(Target::Indexed {
+            item: number(context, name.text.as_slice()),
+            at: name.at,
+            index_at: start_of(index.get()),
+        }),
         Goal::Access {
-            at,
+            memory,
             size,
             address,
             ..
         } => {
-            let size = place(alloc, size.get(), context, names)?;
-            let address = place(alloc, address.get(), context, names)?;
-            Ok(memory_target(*at, size.worth, address.made))
+            let size = inline(alloc, size.get(), context, names)?;
+            Ok(Target::Access {
+                at: memory.at,
+                size: size.worth,
+                address_at: start_of(address.get()),
+            })
+        }
+    }
+}
+
+/// The index or address of what a statement writes.
+fn state_parts(
+    alloc: Global,
+    goal: &Goal,
+    context: &Context,
+    names: &Names,
+) -> Result<Option<KeptList>, AllocError>
+    ensures { IfOk result (λ parts. parts ≡ gathered no_trees_of (target_parts keeping (items_of context.now) (known_in context.now) goal.now (inner_at context.now names.now))) }
+{
+    match goal {
+        Goal::Name(_) => Ok(no_trees(alloc)),
+        Goal::Indexed { index, .. } => {
+            inline_part(alloc, index.get(), no_trees(alloc), context, names)
+        }
+        Goal::Access { address, .. } => {
+            inline_part(alloc, address.get(), no_trees(alloc), context, names)
         }
     }
 }
 
 /// What is written, and where.
-fn place_assign(
+fn state_assign(
     alloc: Global,
     goal: &Goal,
     value: &Expr,
     context: &Context,
     names: &Names,
-) -> Result<Option<Boxed<Effect>>, AllocError>
-    ensures { IfOk result (λ effect. effect ≡ assign_effect (target_at context.now names.now goal.now) (within (placed_at context.now names.now value.now).tree)) }
+) -> Result<Option<KeptEffect>, AllocError>
+    ensures { IfOk result (λ effect. effect ≡ assign_over (target_of keeping (items_of context.now) (known_in context.now) goal.now (inner_at context.now names.now)) (gathered no_trees_of (target_parts keeping (items_of context.now) (known_in context.now) goal.now (inner_at context.now names.now))) (start_of_expression value.now) (tree_at context.now names.now value.now)) }
 {
-    let target = place_goal(alloc, goal, context, names)?;
-    let value = place(alloc, value, context, names)?;
-    assign(alloc, target, value.made)
+    let target = state_target(alloc, goal, context, names)?;
+    let parts = state_parts(alloc, goal, context, names)?;
+    let value_at = start_of(value);
+    let value = inline(alloc, value, context, names)?;
+    Ok(assign(target, parts, value_at, value.tree))
 }
 
-/// A statement with everything in place of its names; None where one of its expressions has too many nodes.
+/// A statement with everything in place of its names; None where it has too many nodes.
 #[cycle(state)]
-#[tactic(auto, using(crate::proofs::EffectSteps::effect_steps))]
-pub fn state(
+#[tactic(auto, using(crate::proofs::StateLemmas::state_steps))]
+pub(crate) fn state(
     alloc: Global,
     statement: &Statement,
     context: &Context,
     names: &Names,
-) -> Result<Option<Boxed<Effect>>, AllocError>
+) -> Result<Option<KeptEffect>, AllocError>
     ensures { IfOk result (λ effect. effect ≡ effect_at context.now names.now statement.now) }
 {
     match statement {
-        Statement::Block { at, statements } => {
+        Statement::Block { statements, .. } => {
             let effects = state_all(alloc, statements.as_slice(), context, names)?;
-            block(alloc, *at, effects)
+            Ok(block(effects))
         }
         Statement::Let {
             name,
@@ -82,49 +240,70 @@ pub fn state(
             body,
             ..
         } => {
-            let inlined = place(alloc, bound.get(), context, names)?;
+            let value = inline(alloc, bound.get(), context, names)?;
             let within = Names::Let {
                 name,
-                inlined: &inlined,
+                value: &value,
                 outer: &*names,
             };
             state(alloc, body.get(), context, &within)
         }
         Statement::If {
-            at,
             condition,
             then,
             otherwise,
+            ..
         } => {
-            let condition = place(alloc, condition.get(), context, names)?;
+            let condition_at = start_of(condition.get());
+            let condition = inline(alloc, condition.get(), context, names)?;
             let then = state(alloc, then.get(), context, names)?;
             match otherwise {
-                None => if_alone(alloc, *at, condition.made, then),
+                None => choice_alone(alloc, condition_at, condition.tree, then),
                 Some(other) => {
                     let other = state(alloc, other.get(), context, names)?;
-                    if_else(alloc, *at, condition.made, then, other)
+                    choice(alloc, condition_at, condition.tree, then, other)
                 }
             }
         }
         Statement::Assign { goal, value } => {
-            place_assign(alloc, goal, value.get(), context, names)
+            state_assign(alloc, goal, value.get(), context, names)
         }
     }
 }
 
+/// A statement behind others; nothing is made behind too many nodes.
+#[cycle(state)]
+fn state_next(
+    alloc: Global,
+    statement: &Statement,
+    effects: Option<KeptEffects>,
+    context: &Context,
+    names: &Names,
+) -> Result<Option<KeptEffects>, AllocError>
+    ensures { IfOk result (λ longer. longer ≡ added_effect_of effects (effect_at context.now names.now statement.now)) }
+{
+    match effects {
+        None => Ok(None),
+        Some(effects) => {
+            let effect = state(alloc, statement, context, names)?;
+            added_effect(Some(effects), effect)
+        }
+    }
+}
+
+/// Statements one behind the other.
 #[cycle(state)]
 fn state_all(
     alloc: Global,
     statements: &[Statement],
     context: &Context,
     names: &Names,
-) -> Result<Option<Items<Effect>>, AllocError>
-    ensures { IfOk result (λ effects. effects ≡ all_kept (map (effect_at context.now names.now) statements.now)) }
+) -> Result<Option<KeptEffects>, AllocError>
+    ensures { IfOk result (λ effects. effects ≡ gathered_effects no_effects_of (map (effect_at context.now names.now) statements.now)) }
 {
-    let mut effects = Some(Items::new(alloc));
+    let mut effects = no_effects(alloc);
     for statement in statements {
-        let effect = state(alloc, statement, context, names)?;
-        effects = behind(effects, effect)?;
+        effects = state_next(alloc, statement, effects, context, names)?;
     }
     Ok(effects)
 }

@@ -1,6 +1,6 @@
 ghost use Rattle.std.specs.Prelude.{◌≡◌};
 ghost use Rattle.vg_whole.specs.Whole.{inner_of, or_else, whole_of};
-ghost use Rattle.vg_inline.specs.Context.{binding_worths, constants_of, declared_in};
+ghost use Rattle.vg_inline.specs.Context.{binding_worths, constants_in, declared_in};
 
 use crate::Declared;
 use crate::bindings::Bindings;
@@ -10,7 +10,7 @@ use vg_ast::{Expr, TypeExpr};
 use vg_whole::{Worth, worth_of_binary};
 
 fn name_worth(text: &[char], bindings: &Bindings, context: &Context) -> Worth
-    ensures { result ≡ or_else (inner_of (binding_worths bindings.now) text.now) (constants_of context.now text.now) }
+    ensures { result ≡ or_else (inner_of (binding_worths bindings.now) text.now) (constants_in context.now text.now) }
 {
     match bindings {
         Bindings::Nothing => constant(context, text),
@@ -27,7 +27,7 @@ fn name_worth(text: &[char], bindings: &Bindings, context: &Context) -> Worth
 /// What an expression in a declared type is worth.
 #[tactic(auto, using(vg_whole::proofs::JudgedLemmas::judged_steps))]
 pub fn whole(e: &Expr, bindings: &Bindings, context: &Context) -> Worth
-    ensures { result ≡ whole_of (constants_of context.now) e.now (binding_worths bindings.now) }
+    ensures { result ≡ whole_of (constants_in context.now) e.now (binding_worths bindings.now) }
 {
     match e {
         Expr::Number { value, .. } => Worth::Whole(*value),

@@ -10,3 +10,4 @@ pub mod Lift
 pub mod LiftOrder
 pub mod OrderLemmas
 pub mod ParameterLemmas
+pub mod Working

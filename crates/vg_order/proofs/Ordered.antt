@@ -17,7 +17,7 @@ use Rattle.vg_order.proofs.Lookups.{item_of_number, replaced_defined}
 use Rattle.vg_order.proofs.Distinct.{own_number}
 
 -- the name of an item that is put in place is among the names of all such
-replaced_among : (all : List Item) (text : Text) → is_replaced (item_named all text) ≡ true → is_among text (replaced_names all) ≡ true
+pub replaced_among : (all : List Item) (text : Text) → is_replaced (item_named all text) ≡ true → is_among text (replaced_names all) ≡ true
 replaced_among [] text e = absurd (true≢false (sym e))
 replaced_among (item ∷ more) text e = by (defines text (definition_of item)) refl (replaced_among more text) e
   where

@@ -6,3 +6,4 @@ pub mod Sorted
 pub mod Search
 pub mod Numbers
 pub mod Scoped
+pub mod Worked

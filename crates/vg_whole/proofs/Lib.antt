@@ -2,4 +2,4 @@ pub mod BindingLemmas
 pub mod JudgedLemmas
 pub mod StatementLemmas
 pub mod Agreement
-pub mod WorkingLemmas
+pub mod Constants

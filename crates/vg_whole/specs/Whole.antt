@@ -1,5 +1,5 @@
 -- Whole numbers: what an expression is worth before any width is known.
-use Rattle.std.specs.Prelude.{◌≡◌, ℕ, ◌+◌, ◌-◌, ◌*◌, ◌/◌, ◌%◌, ◌^◌, Bool, true, false, nat_lt, nat_le, nat_eq, List, [], ◌∷◌, ◌++◌, Option, Some, None, if◌then◌else◌}
+use Rattle.std.specs.Prelude.{ℕ, ◌+◌, ◌-◌, ◌*◌, ◌/◌, ◌%◌, ◌^◌, Bool, true, false, nat_lt, nat_le, nat_eq, List, [], ◌∷◌, ◌++◌, Option, Some, None, if◌then◌else◌}
 use Rattle.std.specs.Str.{bytes_eq}
 use Rattle.vg_ast.specs.declared.operator.BinaryOperator.{BinaryOperator}
 use Rattle.vg_ast.specs.declared.operator.BinaryOperator.TheVariants as binary
@@ -9,7 +9,7 @@ use Rattle.vg_ast.specs.declared.type_expr.TypeExpr.{TypeExpr}
 use Rattle.vg_ast.specs.declared.type_expr.TypeExpr.TheVariants as types
 use Rattle.vg_ast.specs.declared.item.Item.{Item}
 use Rattle.vg_ast.specs.declared.item.Item.TheVariants as items
-use Rattle.vg_names.specs.Definition.{Text, item_named}
+use Rattle.vg_names.specs.Definition.{Text}
 use Rattle.vg_whole.specs.declared.worth.Worth.{Worth}
 use Rattle.vg_whole.specs.declared.worth.Worth.TheVariants as worths
 
@@ -22,32 +22,44 @@ inner_of [] text = None
 inner_of (x ∷ xs) text = if bytes_eq x.0 text then Some x.1 else inner_of xs text
 
 abbrev pub below_limit : ℕ → Worth
-below_limit n = if nat_lt n (2 ^ 128) then worths.Whole n else worths.Broken
+below_limit n = if nat_lt n (2 ^ 128) then worths.Whole n else worths.NoValue
 
 abbrev pub quotient : ℕ → ℕ → Worth
-quotient a b = if nat_eq b 0 then worths.Broken else worths.Whole (a / b)
+quotient a b = if nat_eq b 0 then worths.NoValue else worths.Whole (a / b)
 
 abbrev pub remainder : ℕ → ℕ → Worth
-remainder a b = if nat_eq b 0 then worths.Broken else worths.Whole (a % b)
+remainder a b = if nat_eq b 0 then worths.NoValue else worths.Whole (a % b)
 
 -- exactly, as whole numbers
 abbrev pub computed : BinaryOperator → ℕ → ℕ → Worth
 computed binary.Add a b = below_limit (a + b)
-computed binary.Subtract a b = if nat_le b a then worths.Whole (a - b) else worths.Broken
+computed binary.Subtract a b = if nat_le b a then worths.Whole (a - b) else worths.NoValue
 computed binary.Multiply a b = below_limit (a * b)
 computed binary.Divide a b = quotient a b
 computed binary.Remainder a b = remainder a b
 computed _ a b = worths.Typed
 
--- an operator over a broken one is broken, and isn't judged by itself
+abbrev pub is_arithmetic : BinaryOperator → Bool
+is_arithmetic binary.Add = true
+is_arithmetic binary.Subtract = true
+is_arithmetic binary.Multiply = true
+is_arithmetic binary.Divide = true
+is_arithmetic binary.Remainder = true
+is_arithmetic _ = false
+
+-- over a whole number without a value
+abbrev pub valueless : BinaryOperator → Worth
+valueless op = if is_arithmetic op then worths.NoValue else worths.Typed
+
+-- `+ - * / %` over two whole numbers are one; over one that has no value they aren't judged themselves
 abbrev pub binary_whole : BinaryOperator → Worth → Worth → Worth
 binary_whole op (worths.Whole a) (worths.Whole b) = computed op a b
-binary_whole op worths.Broken b = worths.Broken
-binary_whole op (worths.Whole a) worths.Broken = worths.Broken
-binary_whole op worths.Typed worths.Broken = worths.Broken
+binary_whole op (worths.Whole a) worths.NoValue = valueless op
+binary_whole op worths.NoValue (worths.Whole b) = valueless op
+binary_whole op worths.NoValue worths.NoValue = valueless op
+binary_whole op worths.Typed b = worths.Typed
 binary_whole op (worths.Whole a) worths.Typed = worths.Typed
-binary_whole op worths.Typed (worths.Whole b) = worths.Typed
-binary_whole op worths.Typed worths.Typed = worths.Typed
+binary_whole op worths.NoValue worths.Typed = worths.Typed
 
 -- what a name stands for: an inner name hides an item
 abbrev pub or_else : {X : Type 0} → Option X → X → X
@@ -70,14 +82,14 @@ Judges = Inner Worth → Judged
 abbrev pub has_type : List ℕ → Judged
 has_type places = record { worth = worths.Typed; places = places }
 
-abbrev pub is_broken : Worth → Bool
-is_broken (worths.Whole n) = false
-is_broken worths.Broken = true
-is_broken worths.Typed = false
+abbrev pub is_valueless : Worth → Bool
+is_valueless (worths.Whole n) = false
+is_valueless worths.NoValue = true
+is_valueless worths.Typed = false
 
 -- the operator itself is at fault
 abbrev pub operator_places : BinaryOperator → ℕ → Worth → Worth → List ℕ
-operator_places op at (worths.Whole a) (worths.Whole b) = if is_broken (computed op a b) then at ∷ [] else []
+operator_places op at (worths.Whole a) (worths.Whole b) = if is_valueless (computed op a b) then at ∷ [] else []
 operator_places op at _ _ = []
 
 abbrev pub places_of_all : List Judges → Inner Worth → List ℕ
@@ -118,10 +130,13 @@ judged constants e = fold-Expr Judges (judged_step constants) e
 abbrev pub whole_of : Constants → Expr → Inner Worth → Worth
 whole_of constants e inner = (judged constants e inner).worth
 
-abbrev pub constant_whole : Constants → Option Item → Worth
-constant_whole constants (Some (items.Constant at name value)) = whole_of constants value []
-constant_whole constants _ = worths.Typed
+-- a constant whose expression is no whole number is one without a value
+abbrev pub constant_worth : Worth → Worth
+constant_worth (worths.Whole n) = worths.Whole n
+constant_worth worths.NoValue = worths.NoValue
+constant_worth worths.Typed = worths.NoValue
 
--- the names of constants are what their expressions are, and all other names of items are typed
-abbrev pub AreConstants : List Item → Constants → Type 0
-AreConstants all constants = (text : Text) → constants text ≡ constant_whole constants (item_named all text)
+-- what the name of an item is worth
+abbrev pub constant_whole : Constants → Option Item → Worth
+constant_whole constants (Some (items.Constant at name value)) = constant_worth (whole_of constants value [])
+constant_whole constants _ = worths.Typed

@@ -33,5 +33,5 @@ mod worth;
 
 pub use operator::worth_of_binary;
 pub use overflow::first_overflow;
-pub use working::{only_worths, worths};
+pub use working::{constants_are_worked, worths};
 pub use worth::Worth;

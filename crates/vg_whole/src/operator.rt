@@ -1,7 +1,7 @@
 ghost use Rattle.std.specs.Prelude.{◌≡◌, ◌+◌, ◌*◌};
 ghost use Rattle.vg_ast.specs.declared.operator.BinaryOperator.TheVariants.{Subtract};
 ghost use Rattle.vg_names.specs.First.{first_of};
-ghost use Rattle.vg_whole.specs.Whole.{below_limit, quotient as quotient_of, remainder as remainder_of, computed as computed_of, binary_whole, operator_places};
+ghost use Rattle.vg_whole.specs.Whole.{below_limit, quotient as quotient_of, remainder as remainder_of, computed as computed_of, valueless as valueless_of, binary_whole, operator_places};
 
 use crate::Worth;
 use vg_ast::BinaryOperator;
@@ -10,7 +10,7 @@ fn sum(left: u128, right: u128) -> Worth
     ensures { result ≡ below_limit (left + right) }
 {
     match left.checked_add(right) {
-        None => Worth::Broken,
+        None => Worth::NoValue,
         Some(number) => Worth::Whole(number),
     }
 }
@@ -21,7 +21,7 @@ fn difference(left: u128, right: u128) -> Worth
     if right <= left {
         Worth::Whole(left - right)
     } else {
-        Worth::Broken
+        Worth::NoValue
     }
 }
 
@@ -29,7 +29,7 @@ fn product(left: u128, right: u128) -> Worth
     ensures { result ≡ below_limit (left * right) }
 {
     match left.checked_mul(right) {
-        None => Worth::Broken,
+        None => Worth::NoValue,
         Some(number) => Worth::Whole(number),
     }
 }
@@ -38,7 +38,7 @@ fn quotient(left: u128, divisor: u128) -> Worth
     ensures { result ≡ quotient_of left divisor }
 {
     if divisor == 0 {
-        Worth::Broken
+        Worth::NoValue
     } else {
         Worth::Whole(left / divisor)
     }
@@ -48,7 +48,7 @@ fn remainder(left: u128, modulus: u128) -> Worth
     ensures { result ≡ remainder_of left modulus }
 {
     if modulus == 0 {
-        Worth::Broken
+        Worth::NoValue
     } else {
         Worth::Whole(left % modulus)
     }
@@ -68,14 +68,28 @@ fn computed(operator: BinaryOperator, left: u128, right: u128) -> Worth
     }
 }
 
+/// What an operator makes of two whole numbers of which one has no value.
+fn valueless(operator: BinaryOperator) -> Worth
+    ensures { result ≡ valueless_of operator }
+{
+    match operator {
+        BinaryOperator::Add
+        | BinaryOperator::Subtract
+        | BinaryOperator::Multiply
+        | BinaryOperator::Divide
+        | BinaryOperator::Remainder => Worth::NoValue,
+        _ => Worth::Typed,
+    }
+}
+
 /// What an operator makes of its operands.
 pub fn worth_of_binary(operator: BinaryOperator, left: Worth, right: Worth) -> Worth
     ensures { result ≡ binary_whole operator left right }
 {
     match (left, right) {
         (Worth::Whole(left), Worth::Whole(right)) => computed(operator, left, right),
-        (Worth::Broken, _) | (_, Worth::Broken) => Worth::Broken,
-        _ => Worth::Typed,
+        (Worth::Typed, _) | (_, Worth::Typed) => Worth::Typed,
+        _ => valueless(operator),
     }
 }
 
@@ -90,7 +104,7 @@ pub fn place_of_binary(
 {
     match (left, right) {
         (Worth::Whole(left), Worth::Whole(right)) => match computed(operator, left, right) {
-            Worth::Broken => Some(at),
+            Worth::NoValue => Some(at),
             _ => None,
         },
         _ => None,

@@ -1,8 +1,8 @@
 ghost use Rattle.std.specs.Prelude.{◌≡◌, [], Some, IfOk};
 ghost use Rattle.vg_names.specs.Duplicate.{duplicates};
 ghost use Rattle.vg_order.specs.Cyclic.{IsOrder};
-ghost use Rattle.vg_whole.specs.Whole.{constant_whole};
-ghost use Rattle.vg_whole.specs.Worths.{constants_by, AreWorths, IsOnly};
+ghost use Rattle.vg_whole.specs.Whole.{constant_whole, constant_worth as constant_worth_of};
+ghost use Rattle.vg_whole.specs.Worths.{constants_by, AreWorths, ConstantsAreWorked};
 
 use crate::Worth;
 use crate::bindings::Bindings;
@@ -12,13 +12,24 @@ use std::alloc::{AllocError, Global};
 use vg_ast::{Desc, Item};
 use vg_names::{Inner, Table};
 
+/// What a constant is worth, by what its expression is.
+fn constant_worth(worth: Worth) -> Worth
+    ensures { result ≡ constant_worth_of worth }
+{
+    match worth {
+        Worth::Whole(value) => Worth::Whole(value),
+        Worth::NoValue | Worth::Typed => Worth::NoValue,
+    }
+}
+
 /// What an item is worth, where those of the constants that it uses are known.
 fn worth_of_item(item: &Item, table: &Table, worths: &[Worth]) -> Worth
     ensures { result ≡ constant_whole (constants_by table.now.items.now worths.now) (Some item.now) }
 {
     match item {
         Item::Constant { value, .. } => {
-            judged(value.get(), &Bindings::Typed(Inner::Nothing), table, worths).worth
+            let value = judged(value.get(), &Bindings::Typed(Inner::Nothing), table, worths);
+            constant_worth(value.worth)
         }
         _ => Worth::Typed,
     }
@@ -43,7 +54,7 @@ pub fn worths(
     Ok(Items::from_vec(worths))
 }
 
-/// A law: there is one way to value the names of a description.
-pub fn only_worths()
-    ensures { IsOnly }
+/// A law: constants are worth what their expressions are, and there is one way to value them so.
+pub fn constants_are_worked()
+    ensures { ConstantsAreWorked }
 {}

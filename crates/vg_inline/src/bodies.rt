@@ -1,0 +1,93 @@
+//! The bodies of functions with everything but their parameters in place, worked out one behind the other.
+ghost use Rattle.std.specs.Prelude.{◌≡◌, [], Some, IfOk, length, replicate};
+ghost use Rattle.vg_names.specs.Duplicate.{duplicates};
+ghost use Rattle.vg_order.specs.Cyclic.{IsOrder};
+ghost use Rattle.vg_whole.specs.Worths.{constants_by};
+ghost use Rattle.vg_inline.specs.Context.{aliases_by, bodies_by};
+ghost use Rattle.vg_inline.specs.Inline.{bodies_of, body_step};
+ghost use Rattle.vg_inline.specs.Kept.{keeping, kept_missing};
+
+use crate::Declared;
+use crate::context::Context;
+use crate::inlining::{constant_or, inline};
+use crate::keeping::missing;
+use crate::kept::Kept;
+use crate::names::Names;
+use crate::whole::declared_type;
+use sqlite_items::Items;
+use std::alloc::{AllocError, Global};
+use vg_ast::{Desc, Item};
+use vg_names::Table;
+use vg_whole::Worth;
+
+/// The body of an item, where it is a function and the bodies of those that it calls are known.
+fn body_of_item(
+    alloc: Global,
+    item: &Item,
+    table: &Table,
+    worths: &[Worth],
+    aliases: &[Declared],
+    bodies: &[Option<Kept>],
+) -> Result<Option<Kept>, AllocError>
+    ensures { let all = table.now.items.now in IfOk result (λ body. body ≡ body_step keeping all (constants_by all worths.now) (aliases_by all aliases.now) (bodies_by all bodies.now) (Some item.now)) }
+{
+    match item {
+        Item::Function {
+            parameters,
+            result,
+            body,
+            ..
+        } => {
+            let context = Context {
+                table,
+                worths,
+                aliases,
+                bodies,
+                parameters: parameters.as_slice(),
+            };
+            let value = inline(alloc, body.get(), &context, &Names::Parameters)?;
+            let declared = declared_type(result, &context);
+            Ok(constant_or(alloc, declared, value.worth, value.tree))
+        }
+        _ => Ok(missing(alloc)),
+    }
+}
+
+fn no_bodies(alloc: Global, items: &[Item]) -> Result<Items<Option<Kept>>, AllocError>
+    ensures { IfOk result (λ bodies. bodies ≡ replicate (length items.now) kept_missing) }
+{
+    let mut bodies = Items::new(alloc);
+    for _ in items {
+        bodies.push(missing(alloc))?;
+    }
+    Ok(bodies)
+}
+
+/// The bodies of the functions, each worked out once along the order.
+pub fn work_out_bodies(
+    alloc: Global,
+    description: &Desc,
+    table: &Table,
+    order: &[usize],
+    worths: &[Worth],
+    aliases: &[Declared],
+) -> Result<Items<Option<Kept>>, AllocError>
+    requires items { table.now.items.now ≡ description.now.items }
+    requires distinct { duplicates description.now ≡ [] }
+    requires order { IsOrder description.now.items order.now }
+    ensures { let all = description.now.items in IfOk result (λ bodies. bodies_by all bodies ≡ bodies_of keeping all (constants_by all worths.now) (aliases_by all aliases.now)) }
+{
+    let mut bodies = no_bodies(alloc, table.items)?;
+    for number in order {
+        let body = body_of_item(
+            alloc,
+            &table.items[*number],
+            table,
+            worths,
+            aliases,
+            bodies.as_slice(),
+        )?;
+        bodies.set(*number, body);
+    }
+    Ok(bodies)
+}
