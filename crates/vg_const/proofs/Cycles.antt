@@ -88,4 +88,3 @@ reached_stands_longer d order distinct is {a} {b} (through {b = middle} usage wa
 -- where there is an order nothing uses itself
 pub none_reaches_itself : (d : Desc) (order : List ℕ) (a : Text) → duplicates d ≡ [] → IsOrder d.items order → Reaches d.items a a → ⊥
 none_reaches_itself d order a distinct is way = let longer = reached_stands_longer d order distinct is way in omega arith
-

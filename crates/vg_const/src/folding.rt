@@ -19,9 +19,7 @@ use crate::plain::Plain;
 use sqlite_items::Items;
 use std::alloc::{AllocError, Global};
 use vg_ast::{Desc, Item};
-use vg_inline::{
-    Context, Declared, Kept, first_excess, work_out_aliases, work_out_bodies,
-};
+use vg_inline::{Context, Declared, Kept, first_excess, work_out_aliases, work_out_bodies};
 use vg_names::{Table, first_duplicate, first_unknown};
 use vg_order::{Order, order_of};
 use vg_whole::{Worth, first_overflow, worths};
@@ -100,7 +98,14 @@ fn known(
         return Err(DescFault::Overflow { at });
     }
     let aliases = work_out_aliases(alloc, d, &table, order.as_slice(), worths.as_slice())?;
-    let bodies = work_out_bodies(alloc, d, &table, order.as_slice(), worths.as_slice(), aliases.as_slice())?;
+    let bodies = work_out_bodies(
+        alloc,
+        d,
+        &table,
+        order.as_slice(),
+        worths.as_slice(),
+        aliases.as_slice(),
+    )?;
     let excess = excess(
         alloc,
         d,

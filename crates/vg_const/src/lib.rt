@@ -29,9 +29,9 @@ mod laws;
 mod plain;
 mod rule;
 
-pub use instruction::{behaviour, behaviours};
 pub use fault::DescFault;
 pub use folding::fold;
+pub use instruction::{behaviour, behaviours};
 pub use laws::{are_first, one_answer};
 pub use plain::Plain;
 pub use rule::Rule;

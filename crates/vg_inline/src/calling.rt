@@ -35,11 +35,7 @@ fn argument(
 /// A tree with arguments in place of its parameters.
 #[cycle(fill)]
 #[tactic(auto, using(crate::proofs::Filling::filling_tree))]
-fn fill(
-    alloc: Global,
-    tree: &Tree,
-    arguments: &[Option<Kept>],
-) -> Result<Option<Kept>, AllocError>
+fn fill(alloc: Global, tree: &Tree, arguments: &[Option<Kept>]) -> Result<Option<Kept>, AllocError>
     ensures { IfOk result (λ filled. filled ≡ filling arguments.now tree.now) }
 {
     match parameter_of(tree) {

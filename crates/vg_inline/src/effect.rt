@@ -6,7 +6,10 @@ use vg_whole::Worth;
 #[derive(Clone, Copy, Debug, PartialEq, Eq)]
 pub enum Target {
     /// The program counter or a single register, by the number of its item.
-    Resource { item: usize, at: usize },
+    Resource {
+        item: usize,
+        at: usize,
+    },
     /// A register of a register file, by the number of the file's item; `index_at` is the place of the first token of its
     /// index.
     Indexed {

@@ -61,11 +61,7 @@ pub fn find<'a>(text: &[char], names: &Names<'a>, context: &Context) -> Option<F
         Names::Nothing => None,
         Names::Fields(format) => field_of(context.table.items, *format, text),
         Names::Parameters => parameter_named(context.parameters, text),
-        Names::Let {
-            name,
-            value,
-            outer,
-        } => {
+        Names::Let { name, value, outer } => {
             if name.text.as_slice() == text {
                 Some(Found::Bound(*value))
             } else {

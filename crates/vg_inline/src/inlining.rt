@@ -207,7 +207,12 @@ pub(crate) fn inline(
     match e {
         Expr::Number { value, .. } => Ok(Value {
             worth: Worth::Whole(*value),
-            tree: leaf(alloc, Head::Whole { value: Some(*value) }),
+            tree: leaf(
+                alloc,
+                Head::Whole {
+                    value: Some(*value),
+                },
+            ),
         }),
         Expr::Name(name) => inline_name(alloc, name.text.as_slice(), context, names),
         Expr::Call { name, arguments } => {

@@ -26,7 +26,6 @@
 #![tactic(auto)]
 
 mod aliases;
-
 mod bindings;
 mod bodies;
 mod calling;
@@ -51,12 +50,12 @@ mod weighing;
 mod whole;
 
 pub use aliases::work_out_aliases;
-pub use instructions::{behaviour, behaviours, first_excess};
 pub use bodies::work_out_bodies;
 pub use context::Context;
 pub use declared::Declared;
 pub use effect::{Effect, Target};
 pub use head::Head;
+pub use instructions::{behaviour, behaviours, first_excess};
 pub use kept::Kept;
 pub use number::worth_of;
 pub use tree::Tree;

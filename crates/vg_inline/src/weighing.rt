@@ -33,7 +33,10 @@ pub(crate) fn weigh(tree: &Tree, sizes: &[usize]) -> usize
 {
     match parameter_of(tree) {
         Some(parameter) => size_at(sizes, parameter),
-        None => sum(head_nodes(tree.head), weigh_all(tree.parts.as_slice(), sizes)),
+        None => sum(
+            head_nodes(tree.head),
+            weigh_all(tree.parts.as_slice(), sizes),
+        ),
     }
 }
 
