@@ -57,7 +57,7 @@ impl Case {
 
     /// Makes the call of the program.
     pub fn run(&self, alloc: Global) -> Result<Outcome, AllocError> {
-        let mut files = MemFiles::new(self.held(alloc)?, self.failing_loads.clone()?);
+        let mut files = MemFiles::new(alloc, self.held(alloc)?, self.failing_loads.clone()?);
         let mut out = MemSink::new(alloc, self.piece, self.failing_puts.clone()?);
         let words = self.split_words(alloc)?;
         let status = vadlgen(alloc, words.as_slice(), &mut files, &mut out);

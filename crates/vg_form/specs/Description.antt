@@ -37,11 +37,13 @@ use Rattle.vg_whole.specs.declared.worth.Worth.{Worth}
 use Rattle.vg_whole.specs.declared.worth.Worth.TheVariants.{Whole}
 use Rattle.vg_whole.specs.Whole.{whole_of}
 use Rattle.vg_inline.specs.declared.declared.Declared.{Declared}
+use Rattle.vg_inline.specs.declared.tree.Tree.{Tree}
 use Rattle.vg_inline.specs.declared.effect.Effect.{Effect, fold-Effect}
 use Rattle.vg_inline.specs.declared.effect.Effect.TheOpen.{Effect-F}
 use Rattle.vg_inline.specs.declared.effect.Target.{Target}
 use Rattle.vg_inline.specs.declared.effect.Target.TheVariants as targets
-use Rattle.vg_inline.specs.InPlace.{Known, declared_type, number_or, behaviour_of}
+use Rattle.vg_inline.specs.InPlace.{Known, declared_type, behaviour_of}
+use Rattle.vg_inline.specs.Inline.{number_or}
 use Rattle.vg_form.specs.Shape.{shape_of, is_whole, is_bits}
 
 -- what is found, or the place of the first thing that isn't as the form asks
@@ -156,12 +158,12 @@ is_rd (shape.Field Rd) = true
 is_rd _ = false
 
 -- X(rd), where the register file is the item of this number
-abbrev pub is_target : ℕ → Target → Bool
-is_target file (targets.Indexed item at index) = nat_eq item file && is_rd (shape_of file index)
-is_target file _ = false
+abbrev pub is_target : ℕ → Target → List Tree → Bool
+is_target file (targets.Indexed item at index_at) (index ∷ []) = nat_eq item file && is_rd (shape_of file index)
+is_target file _ _ = false
 
 abbrev pub effect_step : ℕ → Effect-F (Option Behaviour) → Option Behaviour
-effect_step file (Effect-F.Assign target value) = if is_target file target then value_of (shape_of file value) else None
+effect_step file (Effect-F.Assign target parts at value) = if is_target file target parts then value_of (shape_of file value) else None
 effect_step file _ = None
 
 -- X(rd) := a value

@@ -7,8 +7,8 @@ use Rattle.vg_whole.specs.Worths.{constants_by}
 use Rattle.vg_inline.specs.declared.context.Context.{Context}
 use Rattle.vg_inline.specs.declared.declared.Declared.{Declared}
 use Rattle.vg_inline.specs.declared.effect.Effect.{Effect}
-use Rattle.vg_inline.specs.Context.{aliases_by, aliases_of, constants_of}
-use Rattle.vg_inline.specs.InPlace.{Aliases, type_of, type_worths}
+use Rattle.vg_inline.specs.Context.{aliases_by, aliases_in, constants_in}
+use Rattle.vg_inline.specs.Types.{Aliases, type_of, type_worths}
 use Rattle.vg_form.specs.declared.doing.Doing.{Doing as DoingOf}
 use Rattle.vg_form.specs.Description.{Values, Doing, declares}
 
@@ -20,7 +20,7 @@ abbrev pub values_by : List Item → List Worth → List Declared → Values
 values_by all worths aliases = values_where (constants_by all worths) (aliases_by all aliases)
 
 abbrev pub values_in : Context → Values
-values_in x = values_where (constants_of x) (aliases_of x)
+values_in x = values_where (constants_in x) (aliases_in x)
 
 abbrev pub doing : DoingOf → Doing
 doing x = (x.item.now, x.effect.now)

@@ -1,5 +1,5 @@
 -- What trees with everything in place are, as far as the form of descriptions asks; all their places are free.
-use Rattle.std.specs.Prelude.{ℕ, Bool, false, nat_eq, List, [], ◌∷◌, if◌then◌else◌}
+use Rattle.std.specs.Prelude.{ℕ, Bool, false, nat_eq, List, [], ◌∷◌, Some, if◌then◌else◌}
 use Rattle.vg_ast.specs.declared.operator.BinaryOperator.{BinaryOperator}
 use Rattle.vg_ast.specs.declared.operator.BinaryOperator.TheVariants as binary
 use Rattle.vg_ast.specs.declared.type_expr.BitsKind.TheVariants as kinds
@@ -7,6 +7,8 @@ use Rattle.vg_whole.specs.declared.worth.Worth.{Worth}
 use Rattle.vg_whole.specs.declared.worth.Worth.TheVariants.{Whole}
 use Rattle.vg_inline.specs.declared.declared.Declared.{Declared}
 use Rattle.vg_inline.specs.declared.declared.Declared.TheVariants.{Sized}
+use Rattle.vg_inline.specs.declared.head.Head.{Head}
+use Rattle.vg_inline.specs.declared.head.Head.TheVariants as heads
 use Rattle.vg_inline.specs.declared.tree.Tree.{Tree, fold-Tree}
 use Rattle.vg_inline.specs.declared.tree.Tree.TheOpen.{Tree-F}
 use Rattle.vg_form.specs.declared.form.Behaviour.TheVariants.{AddRegisters, AddField}
@@ -51,14 +53,27 @@ abbrev pub operated : BinaryOperator → Shape → Shape → Shape
 operated binary.Add left right = sum left right
 operated _ left right = shape.Other
 
--- one level of a tree, with its parts, where the register file is the item of this number
+-- a cast of one operand, by whether it is to `Bits<32>`
+abbrev pub cast_shape : Bool → List Shape → Shape
+cast_shape is_word (operand ∷ []) = extended is_word operand
+cast_shape is_word _ = shape.Other
+
+abbrev pub binary_shape : BinaryOperator → List Shape → Shape
+binary_shape op (left ∷ right ∷ []) = operated op left right
+binary_shape op _ = shape.Other
+
+-- a node over parts, where the register file is the item of this number
+abbrev pub shaped : ℕ → Head → List Shape → Shape
+shaped file (heads.Whole (Some value)) parts = shape.Number value
+shaped file (heads.Field field) parts = field_numbered field
+shaped file (heads.Indexed item at index_at) parts = if nat_eq item file then indexed parts else shape.Other
+shaped file (heads.Cast target) parts = cast_shape (is_bits 32 target) parts
+shaped file (heads.Binary op) parts = binary_shape op parts
+shaped file _ parts = shape.Other
+
+-- one level of a tree, with its parts
 abbrev pub shape_step : ℕ → Tree-F Shape → Shape
-shape_step file (Tree-F.Whole value at) = shape.Number value
-shape_step file (Tree-F.Field field at) = field_numbered field
-shape_step file (Tree-F.Indexed item at arguments) = if nat_eq item file then indexed arguments else shape.Other
-shape_step file (Tree-F.Cast operand at target) = extended (is_bits 32 target) operand
-shape_step file (Tree-F.Binary op at left right) = operated op left right
-shape_step file _ = shape.Other
+shape_step file layer = shaped file layer.head layer.parts
 
 abbrev pub shape_of : ℕ → Tree → Shape
 shape_of file t = fold-Tree Shape (shape_step file) t

@@ -40,7 +40,7 @@ fn is_whole(number: u128, worth: Worth) -> bool
 {
     match worth {
         Worth::Whole(other) => number == other,
-        Worth::Broken | Worth::Typed => false,
+        Worth::NoValue | Worth::Typed => false,
     }
 }
 

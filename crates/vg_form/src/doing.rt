@@ -1,4 +1,3 @@
-use sqlite_items::Boxed;
 use vg_ast::Item;
 use vg_inline::Effect;
 
@@ -6,5 +5,5 @@ use vg_inline::Effect;
 #[derive(Clone, Copy)]
 pub(crate) struct Doing<'a> {
     pub item: &'a Item,
-    pub effect: &'a Option<Boxed<Effect>>,
+    pub effect: &'a Option<Effect>,
 }

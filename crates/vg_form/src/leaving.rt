@@ -5,7 +5,6 @@ ghost use Rattle.vg_form.specs.Description.{declares};
 ghost use Rattle.vg_form.specs.Given.{all_doing, left_of};
 
 use crate::doing::Doing;
-use sqlite_items::Boxed;
 use std::alloc::{AllocError, Global};
 use vg_ast::Item;
 use vg_inline::Effect;
@@ -24,7 +23,7 @@ fn declares(item: &Item) -> bool
 pub(crate) fn doings<'a>(
     alloc: Global,
     items: &'a [Item],
-    effects: &'a [Option<Boxed<Effect>>],
+    effects: &'a [Option<Effect>],
 ) -> Result<Vec<Doing<'a>>, AllocError>
     ensures { IfOk result (λ doings. all_doing doings.items ≡ left_of items.now effects.now) }
 {

@@ -18,7 +18,6 @@ use crate::form::Form;
 use crate::leaving::doings;
 use crate::naming::{is_ascii, text_of};
 use crate::pairing::pairs;
-use sqlite_items::Boxed;
 use std::alloc::Global;
 use vg_ast::{Desc, Name};
 use vg_inline::{Context, Declared, Effect};
@@ -51,7 +50,7 @@ fn file(context: &Context) -> usize
 fn form_in(
     alloc: Global,
     description: &Desc,
-    effects: &[Option<Boxed<Effect>>],
+    effects: &[Option<Effect>],
     context: &Context,
 ) -> Result<Form, FormFault>
     requires items { context.now.table.now.items.now ≡ description.now.items }
@@ -78,7 +77,7 @@ fn form(
     table: &Table,
     worths: &[Worth],
     aliases: &[Declared],
-    behaviours: &[Option<Boxed<Effect>>],
+    behaviours: &[Option<Effect>],
 ) -> Result<Form, FormFault>
     requires items { table.now.items.now ≡ description.now.items }
     ensures so { FindsSo (λ form. form) result (form_by description.now (values_by description.now.items worths.now aliases.now) (left_of description.now.items behaviours.now)) }
@@ -89,7 +88,7 @@ fn form(
         table,
         worths,
         aliases,
-        templates: &[],
+        bodies: &[],
         parameters: &[],
     };
     form_in(alloc, description, behaviours, &context)
@@ -101,7 +100,7 @@ fn isa_by(
     table: &Table,
     worths: &[Worth],
     aliases: &[Declared],
-    behaviours: &[Option<Boxed<Effect>>],
+    behaviours: &[Option<Effect>],
 ) -> Result<Isa, FormFault>
     requires items { table.now.items.now ≡ description.now.items }
     ensures isa { IfOk result (λ isa. (form : TheForm) × (form_by description.now (values_by description.now.items worths.now aliases.now) (left_of description.now.items behaviours.now) ≡ found form) × (isa ≡ parts_of form)) }
@@ -121,7 +120,7 @@ pub fn isa_of(
     description: &Desc,
     worths: &[Worth],
     aliases: &[Declared],
-    behaviours: &[Option<Boxed<Effect>>],
+    behaviours: &[Option<Effect>],
 ) -> Result<Isa, FormFault>
     ensures isa { (known : Known) → Fits description.now known worths.now aliases.now behaviours.now → IfOk result (λ isa. (form : TheForm) × (form_of description.now known ≡ found form) × (isa ≡ parts_of form)) }
     ensures memory_free { IfOk result (λ isa. IsTrue (is_memory_free isa)) }

@@ -14,10 +14,10 @@ use crate::form::{Behaviour, Pair};
 use crate::naming::{is_ascii, is_named, text_of};
 use crate::shape::{Operand, Shape};
 use crate::shaping::shape;
-use sqlite_items::{Boxed, Items};
+use sqlite_items::Items;
 use std::alloc::Global;
 use vg_ast::{Fix, Item, Name};
-use vg_inline::{Context, Effect, Target, worth_of};
+use vg_inline::{Context, Effect, Target, Tree, worth_of};
 use vg_whole::Worth;
 
 /// A description has at most so many pairs of an instruction and its encoding.
@@ -42,12 +42,12 @@ fn is_rd(shape: Shape) -> bool
 }
 
 /// Whether a target is `X(rd)`, where the register file is the item of this number.
-fn is_target(target: &Target, file: usize) -> bool
-    ensures { result ≡ is_target file target.now }
+fn is_target(target: Target, parts: &[Tree], file: usize) -> bool
+    ensures { result ≡ is_target file target parts.now }
 {
-    match target {
-        Target::Indexed { item, index, .. } => *item == file && is_rd(shape(index.get(), file)),
-        Target::Resource { .. } | Target::Access { .. } => false,
+    match (target, parts) {
+        (Target::Indexed { item, .. }, [index]) => item == file && is_rd(shape(index, file)),
+        _ => false,
     }
 }
 
@@ -56,9 +56,14 @@ fn value_written(effect: &Effect, file: usize) -> Option<Behaviour>
     ensures { result ≡ value_written file effect.now }
 {
     match effect {
-        Effect::Assign { target, value } => {
-            if is_target(target, file) {
-                value_of(shape(value.get(), file))
+        Effect::Assign {
+            target,
+            parts,
+            value,
+            ..
+        } => {
+            if is_target(*target, parts.as_slice(), file) {
+                value_of(shape(value, file))
             } else {
                 None
             }
@@ -67,12 +72,12 @@ fn value_written(effect: &Effect, file: usize) -> Option<Behaviour>
     }
 }
 
-fn behaviour(effect: &Option<Boxed<Effect>>, file: usize) -> Option<Behaviour>
+fn behaviour(effect: &Option<Effect>, file: usize) -> Option<Behaviour>
     ensures { result ≡ value_in file effect.now }
 {
     match effect {
         None => None,
-        Some(effect) => value_written(effect.get(), file),
+        Some(effect) => value_written(effect, file),
     }
 }
 
@@ -106,7 +111,7 @@ fn number_below(limit: u8, worth: Worth) -> Option<u8>
                 None
             }
         }
-        Worth::Broken | Worth::Typed => None,
+        Worth::NoValue | Worth::Typed => None,
     }
 }
 

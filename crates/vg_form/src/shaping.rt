@@ -1,13 +1,13 @@
 //! The shapes of trees.
 
 ghost use Rattle.std.specs.Prelude.{◌≡◌, nat_eq, if◌then◌else◌, map};
-ghost use Rattle.vg_form.specs.Shape.{extended, field_numbered, indexed, operated, shape_of, sum};
+ghost use Rattle.vg_form.specs.Shape.{binary_shape, cast_shape, extended, field_numbered, indexed, operated, shape_of, sum};
 
 use crate::declaring::is_bits;
 use crate::form::Behaviour;
 use crate::shape::{Operand, Shape};
 use vg_ast::BinaryOperator;
-use vg_inline::Tree;
+use vg_inline::{Head, Tree};
 
 /// The field of this number in the one format.
 fn numbered(field: usize) -> Shape
@@ -65,38 +65,17 @@ fn operated(operator: BinaryOperator, left: Shape, right: Shape) -> Shape
 
 /// What a tree is, as far as the form asks, where the register file is the item of this number.
 #[cycle(shape)]
-#[tactic(auto, using(crate::proofs::ShapeLemmas::shape_of_indexed))]
+#[tactic(auto, using(crate::proofs::ShapeLemmas::shape_tree))]
 pub(crate) fn shape(tree: &Tree, file: usize) -> Shape
     ensures { result ≡ shape_of file tree.now }
 {
-    match tree {
-        Tree::Whole { value, .. } => Shape::Number(*value),
-        Tree::Field { field, .. } => numbered(*field),
-        Tree::Indexed {
-            item,
-            arguments,
-            ..
-        } => register(arguments.as_slice(), *item, file),
-        Tree::Cast {
-            operand,
-            target,
-            ..
-        } => extended(is_bits(32, *target), shape(operand.get(), file)),
-        Tree::Binary {
-            operator,
-            left,
-            right,
-            ..
-        } => operated(*operator, shape(left.get(), file), shape(right.get(), file)),
-        Tree::Constant { .. }
-        | Tree::Resource { .. }
-        | Tree::Parameter { .. }
-        | Tree::Lacking { .. }
-        | Tree::Access { .. }
-        | Tree::Join { .. }
-        | Tree::Unary { .. }
-        | Tree::Slice { .. }
-        | Tree::If { .. } => Shape::Other,
+    match tree.head {
+        Head::Whole { value: Some(value) } => Shape::Number(value),
+        Head::Field { field } => numbered(field),
+        Head::Indexed { item, .. } => register(tree.parts.as_slice(), item, file),
+        Head::Cast { target } => cast(tree.parts.as_slice(), is_bits(32, target), file),
+        Head::Binary { operator } => binary(tree.parts.as_slice(), operator, file),
+        _ => Shape::Other,
     }
 }
 
@@ -113,6 +92,27 @@ fn register(arguments: &[Tree], item: usize, file: usize) -> Shape
             Shape::Field(operand) => Shape::Register(operand),
             _ => Shape::Other,
         },
+        _ => Shape::Other,
+    }
+}
+
+/// A cast of an operand, by whether it is to `Bits<32>`.
+#[cycle(shape)]
+fn cast(parts: &[Tree], to_word: bool, file: usize) -> Shape
+    ensures { result ≡ cast_shape to_word (map (shape_of file) parts.now) }
+{
+    match parts {
+        [operand] => extended(to_word, shape(operand, file)),
+        _ => Shape::Other,
+    }
+}
+
+#[cycle(shape)]
+fn binary(parts: &[Tree], operator: BinaryOperator, file: usize) -> Shape
+    ensures { result ≡ binary_shape operator (map (shape_of file) parts.now) }
+{
+    match parts {
+        [left, right] => operated(operator, shape(left, file), shape(right, file)),
         _ => Shape::Other,
     }
 }

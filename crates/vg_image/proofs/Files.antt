@@ -1,11 +1,11 @@
 -- The numbers of registers, as declared.
-use Rattle.std.proofs.Common.{◌≡◌, ℕ, zero, suc, ◌<◌, ◌^◌, Bool, true, false, List, [], ◌∷◌, length, map, replicate, IsTrue, nat_lt, nat_eq, slice_get, slice_index, slice_set, Some, None, Option, is_none, arith, refl, sym, subst, ap, ◌∙◌, get_or}
+use Rattle.std.proofs.Common.{◌≡◌, ℕ, zero, suc, ◌<◌, ◌^◌, Bool, true, false, List, [], ◌∷◌, length, map, replicate, IsTrue, nat_eq, slice_get, slice_index, slice_set, Some, None, Option, arith, refl, sym, subst, ap, ◌∙◌, get_or}
 use Rattle.std.specs.Option.{option_map_or}
 use Rattle.std.specs.List.{list_all}
 use Rattle.std.proofs.lemmas.Bool.Decides.{nat_tests}
 use Rattle.std.proofs.lemmas.Option.{slice_get_read, slice_get-get_or}
 use Rattle.vg_isa.specs.declared.declaration.RegDecl.{RegDecl}
-use Rattle.vg_isa.specs.Declaration.{register_count, register_width, has_register, is_file, is_single}
+use Rattle.vg_isa.specs.Declaration.{register_count, has_register}
 use Rattle.vg_isa.proofs.Tests.{both, list_all-slice_get, nat_eq-true, nat_lt-true, true-nat_eq, true-nat_lt}
 use Rattle.vg_isa.proofs.Registers.{declared_at, register_below, register_within}
 use Rattle.vg_isa.specs.Typing.{fits}

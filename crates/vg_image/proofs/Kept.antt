@@ -1,5 +1,5 @@
 -- What a state keeps, and that a step keeps it.
-use Rattle.std.proofs.Common.{◌≡◌, ℕ, zero, suc, ◌+◌, ◌*◌, ◌/◌, ◌%◌, ◌^◌, ◌<◌, ◌≤◌, Bool, true, false, ◌&&◌, cond, IsTrue, nat_eq, nat_lt, List, [], ◌∷◌, length, map, replicate, All, slice_get, slice_index, slice_set, Some, None, Option, unwrap_or, arith, refl, sym, ap, ◌∙◌, subst, if◌then◌else◌}
+use Rattle.std.proofs.Common.{◌≡◌, ℕ, zero, suc, ◌+◌, ◌/◌, ◌%◌, ◌^◌, ◌<◌, ◌≤◌, Bool, true, false, ◌&&◌, cond, IsTrue, nat_eq, List, [], ◌∷◌, length, slice_get, slice_index, slice_set, Some, None, Option, unwrap_or, arith, refl, sym, ◌∙◌, subst, if◌then◌else◌}
 use Rattle.std.specs.Option.{option_map, option_map_or}
 use Rattle.std.specs.List.{cons_option, filter_map, list_all, AllByRecursion}
 use Rattle.std.specs.Ordering.{nat_cmp, eq_by_cmp}
@@ -18,11 +18,11 @@ use Rattle.vg_isa.specs.declared.declaration.RegDecl.{RegDecl}
 use Rattle.vg_isa.specs.declared.write_made.Made.{Made}
 use Rattle.vg_isa.specs.declared.ids.ResourceId.{ResourceId}
 use Rattle.vg_isa.specs.declared.ids.ResourceId.TheVariants.{Memory, Reg}
-use Rattle.vg_isa.specs.Declaration.{has_register, register_width}
+use Rattle.vg_isa.specs.Declaration.{register_width}
 use Rattle.vg_isa.specs.Typing.{fits, has_width, is_typed, is_write, is_write_of, width_of}
 use Rattle.vg_isa.specs.Accepted.{is_instr, is_isa}
 use Rattle.vg_isa.specs.Value.{IsLawful, IsValue, Reads, holds, value_of}
-use Rattle.vg_isa.specs.Effect.{effect_of, following, made_by, next_pc_of}
+use Rattle.vg_isa.specs.Effect.{effect_of, following, made_by}
 use Rattle.vg_isa.proofs.Kept.{instr_typed, kept_instr, writes_typed}
 use Rattle.vg_isa.proofs.Lawful.{value_is}
 use Rattle.vg_isa.proofs.Registers.{register_within}
@@ -32,7 +32,7 @@ use Rattle.vg_image.specs.declared.ending.Ending.{Ending}
 use Rattle.vg_image.specs.declared.ending.Ending.TheVariants.{End, StackEnd}
 use Rattle.vg_format.specs.Matching.{decoded}
 use Rattle.vg_image.specs.Spelling.{IsImage}
-use Rattle.vg_image.specs.State.{AreBytes, IsState, State, all_written, are_files, byte_at, first_state, is_file_of, is_zero_register, laid, numbers_of, put, reads_of, register_number, register_written, resource_written, state_after, stored}
+use Rattle.vg_image.specs.State.{AreBytes, IsState, State, all_written, are_files, first_state, is_file_of, is_zero_register, laid, numbers_of, put, reads_of, register_written, resource_written, state_after, stored}
 use Rattle.vg_image.specs.Step.{Step, Moved, Over, executed, instr_step, step_of, word_at, word_step}
 use Rattle.vg_image.specs.Run.{after, behind}
 use Rattle.vg_image.proofs.Files.{set_fits, zeros_fit}

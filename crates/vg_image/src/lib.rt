@@ -24,10 +24,12 @@
 //! `Line` and `NotBuilt` only for a text that spells no image, and `NotBuilt` exactly where a line of such a
 //! text begins with `bytes ` or `symbol `. That the line numbers are right is tested.
 //!
-//! **What running an image means** stands in `specs/`. A state has a program counter, registers and stored
-//! bytes (`State`). One step (`step_of`) ends the run at the image's stop, at its full stop, where no code
-//! word stands at the program counter, and where no instruction matches the word; otherwise it gives the
-//! state after the instruction's writes. A run of at most `n` steps (`IsRun`) goes on while a step moves.
+//! **What running an image means** stands in `specs/`. A state has a program counter, registers and the bytes of
+//! memory that aren't 0 (`State`, `IsState`). One step (`step_of`) ends the run at the image's stop, at its full
+//! stop, where no code word stands at the program counter, and where no instruction matches the word; otherwise
+//! it gives the state after the instruction's writes. A run of at most `n` steps goes on while a step moves: as a
+//! relation (`IsRun`) and as a function of `n` (`run_of`), which are one ([`one_run`]). States keep `IsState`
+//! from the first state on ([`states_are_kept`]), and two that read alike are one ([`same_reads`]).
 //!
 //! **Limits.** Texts with data or symbols are not read yet. Code words have at most 64 bits.
 #![tactic(auto)]

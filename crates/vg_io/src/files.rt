@@ -1,6 +1,6 @@
 ghost use Rattle.std.specs.Prelude.{◌≡◌, ◌≤◌, ℕ, List, Option, Some, IfOk, IfSome, IsErrOf, vec_len};
 ghost use Rattle.vg_io.specs.Count.{Rose};
-ghost use Rattle.vg_io.specs.Files.{beginning, Asks};
+ghost use Rattle.vg_io.specs.Files.{beginning, Asks, CountsLoad};
 
 use crate::LoadFault;
 use std::alloc::Global;
@@ -8,7 +8,9 @@ use std::alloc::Global;
 /// Where files are loaded from.
 ///
 /// `held` is the map from names to the files' bytes, where the object tells it. `faults` counts
-/// failures, never falls, and stands still at 2^64 - 1. `asked` lists the names loaded so far.
+/// failures: each load that fails raises it by one, and one that gives bytes leaves it. It stands still
+/// at 2^64 - 1. A load that finds no memory may raise it by one, or leave it. `asked` lists the names
+/// loaded so far.
 pub trait Files {
     ghost held: { Self → Option (List ℕ → Option (List ℕ)) };
 
@@ -24,6 +26,7 @@ pub trait Files {
         ensures within { IfOk result (λ bytes. vec_len bytes ≤ most) }
         ensures failed { IsErrOf result LoadFault.Failed → Rose (faults self.old) (faults self.new) }
         ensures kept_faults { faults self.old ≤ faults self.new }
+        ensures counts { CountsLoad result (faults self.old) (faults self.new) }
         ensures asked { Asks result name.now (asked self.old) (asked self.new) }
         ensures same { held self.new ≡ held self.old };
 }

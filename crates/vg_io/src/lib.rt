@@ -5,15 +5,20 @@
 //! many of its first bytes were written. [`put_all`] puts a whole text so.
 //!
 //! What is proved, for every implementation: a load gives exactly the first bytes of the named
-//! file, a put appends exactly the bytes that it answers for, and each failure was counted; each put
-//! that failed or took nothing exactly once, and no other. Putting a whole text stops at the first
-//! such put. Where an object doesn't tell its bytes, the counts and the bounds still hold.
+//! file, a put appends exactly the bytes that it answers for, and each load that failed, and each put
+//! that failed or took nothing, is counted exactly once, and no other. Putting a whole text stops at
+//! the first such put. Where an object doesn't tell its bytes, the counts and the bounds still hold.
 //!
 //! [`MemFiles`] and [`MemSink`] keep bytes in memory, tell them, and fail at the calls that they
 //! are told to. [`RealFiles`] and [`RealOut`] are the system's files and standard output, and tell
 //! no bytes: what a real file or terminal holds is outside every proof.
 //!
-//! Counts stand still at 2^64 - 1. Only want of memory may take the place of any other answer.
+//! Counts stand still at 2^64 - 1. Only want of memory may take the place of any other answer; of a load
+//! it may be counted as a failure.
+//!
+//! The traits ask more of an implementation than a reader of files or a writer of text needs: exact counts,
+//! beside the bytes. They are what a caller that stops at the first failure can be told by, where bytes
+//! aren't told.
 //!
 //! ```
 //! let mut out = MemSink::new(alloc, 2, Vec::new(alloc));

@@ -1,6 +1,6 @@
 ghost use Rattle.std.specs.Prelude.{◌≡◌, ◌≤◌, ◌⊎◌, [], Some, None, IfOk, IsErrOf, OnOk, option_map, vec_len, if◌then◌else◌};
 ghost use Rattle.vg_io.specs.Count.{Rose, one_more};
-ghost use Rattle.vg_io.specs.Files.{beginning, Asks, load_failed};
+ghost use Rattle.vg_io.specs.Files.{beginning, Asks, CountsLoad, load_failed};
 ghost use Rattle.vg_io.specs.Schedule.{IsFailing, after_call};
 ghost use Rattle.vg_io.specs.MemFiles.{bytes_named, named_bytes};
 ghost use Rattle.vg_io.specs.Texts.{texts};
@@ -31,15 +31,14 @@ impl Model for MemFiles {
 impl MemFiles {
     /// Files with these names and bytes. Of two with one name the first counts. The loads whose
     /// numbers are in `failing` fail; they are counted from 0.
-    pub fn new(files: Vec<(String, Vec<u8>)>, failing: Vec<u64>) -> MemFiles
+    pub fn new(alloc: Global, files: Vec<(String, Vec<u8>)>, failing: Vec<u64>) -> MemFiles
         ensures { result ≡ record { files = named_bytes files.items; schedule = record { failing = failing.items; made = 0 }; faults = 0; asked = [] } }
     {
-        let asked = Vec::new(*files.allocator());
         MemFiles {
             files,
             schedule: Schedule::new(failing),
             faults: 0,
-            asked,
+            asked: Vec::new(alloc),
         }
     }
 
@@ -74,6 +73,7 @@ impl Files for MemFiles {
         ensures within { IfOk result (λ bytes. vec_len bytes ≤ most) }
         ensures failed { IsErrOf result LoadFault.Failed → Rose self.old.faults self.new.faults }
         ensures kept_faults { self.old.faults ≤ self.new.faults }
+        ensures counts { CountsLoad result self.old.faults self.new.faults }
         ensures asked { Asks result name.now self.old.asked self.new.asked }
         ensures same { self.new.files ≡ self.old.files }
 

@@ -1,6 +1,6 @@
 ghost use Rattle.std.specs.Prelude.{◌≡◌, ◌≤◌, [], None, IfOk, is_err, vec_len, if◌then◌else◌};
 ghost use Rattle.vg_io.specs.Count.{one_more};
-ghost use Rattle.vg_io.specs.Files.{Asks};
+ghost use Rattle.vg_io.specs.Files.{Asks, CountsLoad};
 
 use crate::{Files, LoadFault};
 use std::alloc::Global;
@@ -42,6 +42,7 @@ impl<'a, R: rt::Files> RealFiles<'a, R> {
         ensures within { IfOk result (λ bytes. vec_len bytes ≤ most) }
         ensures asked { Asks result name.now self.old.asked self.new.asked }
         ensures kept_faults { self.old.faults ≤ self.new.faults }
+        ensures counts { CountsLoad result self.old.faults self.new.faults }
         ensures faults { self.new.faults ≡ (if is_err result then one_more self.old.faults else self.old.faults) }
     {
         let loaded = self.read(alloc, name, most);

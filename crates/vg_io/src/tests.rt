@@ -33,7 +33,7 @@ fn loads_from_memory(rt: HostRuntime) -> Result<(), Fail> {
     held.push(file(alloc, "a", b"second")?)?;
     let mut failing = Vec::new(alloc);
     failing.push(1)?;
-    let mut files = MemFiles::new(held, failing);
+    let mut files = MemFiles::new(alloc, held, failing);
     assert_eq!(rt;
         loaded(&mut files, alloc, "a", 3)?.as_slice(),
         b"fir".as_slice()

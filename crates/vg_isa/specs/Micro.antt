@@ -33,7 +33,7 @@ abbrev pub is_resolve : Act → Bool
 is_resolve act.Resolve = true
 is_resolve _ = false
 
--- the stages where such an act stands, counted from 0 from the first of these; one in which it stands twice is told twice
+-- the stages where such an act stands, the first of these having this number; one in which it stands twice is told twice
 abbrev pub stages_from : ℕ → (Act → Bool) → List Stage → List ℕ
 stages_from s is [] = []
 stages_from s is (stage ∷ stages) = map (λ a. s) (filter is stage.acts) ++ stages_from (s + 1) is stages

@@ -1,5 +1,5 @@
 -- Runs, one step at a time.
-use Rattle.std.proofs.Common.{◌≡◌, ◌⊎◌, inl, ℕ, suc, ◌+◌, ◌<◌, ◌≤◌, Some, None, Option, sym, ap, ◌∙◌, add-one, subst, arith}
+use Rattle.std.proofs.Common.{◌≡◌, inl, ℕ, ◌+◌, ◌<◌, Some, None, Option, sym, ap, ◌∙◌, add-one, subst, arith}
 use Rattle.std.specs.Option.{option_map}
 use Rattle.vg_isa.specs.declared.isa.Parts.{Parts}
 use Rattle.vg_image.specs.declared.image.Image.{Image}
@@ -12,7 +12,7 @@ use Rattle.vg_image.proofs.Runs.{Behind, moved_more, run_over, run_whole}
 use Rattle.vg_iss.specs.declared.stepped.Stepped.{Stepped}
 use Rattle.vg_iss.specs.declared.stepped.Stepped.TheVariants as stepped
 use Rattle.vg_iss.specs.declared.ran.Ran.{Ran}
-use Rattle.vg_iss.specs.Simulator.{answer_of, stepped_of, ran_of, IsRunOf, IsRan}
+use Rattle.vg_iss.specs.Simulator.{answer_of, stepped_of, ran_of, IsRan}
 
 over_moves : (e : Ending) → stepped.Moved ≡ stepped_of e → ⊥
 over_moves End h = cc

@@ -1,5 +1,5 @@
 -- From the answers of the readers to what is said of a text.
-use Rattle.std.proofs.Common.{◌≡◌, ◌⊎◌, inl, inr, ℕ, List, Option, refl, sym, subst}
+use Rattle.std.proofs.Common.{◌≡◌, ◌⊎◌, inl, inr, ℕ, List, Option, Some, IsTrue, length, refl, sym, subst, map, ap, ◌∙◌}
 use Rattle.vg_tok.specs.declared.token.Token.{Token}
 use Rattle.vg_tok.specs.declared.fault.TokFault.{TokFault}
 use Rattle.vg_tok.specs.declared.fault.TokFault.TheVariants as token_faults
@@ -10,12 +10,14 @@ use Rattle.vg_const.specs.declared.fault.DescFault.{DescFault}
 use Rattle.vg_const.specs.declared.fault.DescFault.TheVariants as faults
 use Rattle.vg_const.specs.declared.plain.Plain.{Plain}
 use Rattle.vg_whole.specs.declared.worth.Worth.{Worth}
-use Rattle.vg_inline.specs.declared.in_place.InPlace.{InPlace}
 use Rattle.vg_inline.specs.declared.declared.Declared.{Declared}
 use Rattle.vg_inline.specs.declared.effect.Effect.{Effect}
-use Rattle.vg_inline.specs.InPlace.{Known, IsKnown}
-use Rattle.vg_const.specs.Rules.{IsFolded, IsInPlace, Breaks}
+use Rattle.vg_inline.specs.InPlace.{known_of, behaviour_of}
+use Rattle.vg_whole.specs.Worths.{constants_by}
+use Rattle.vg_inline.specs.Context.{aliases_by}
+use Rattle.vg_const.specs.Rules.{IsFolded, Breaks}
 use Rattle.vg_isa.specs.declared.isa.Parts.{Parts}
+use Rattle.vg_isa.specs.Accepted.{is_isa}
 use Rattle.vg_form.specs.declared.fault.FormFault.{FormFault}
 use Rattle.vg_form.specs.declared.fault.FormFault.TheVariants as form_faults
 use Rattle.vg_form.specs.declared.form.Form.{Form}
@@ -24,8 +26,12 @@ use Rattle.vg_form.specs.Description.{form_of, found, unlike}
 use Rattle.vg_form.specs.Fitting.{Fits}
 use Rattle.vg_top.specs.declared.description_fault.DescriptionFault.{DescriptionFault}
 use Rattle.vg_top.specs.declared.description_fault.DescriptionFault.TheVariants as why
+use Rattle.vg_top.specs.declared.reason.Reason.TheVariants as reasons
+use Rattle.vg_top.specs.declared.rule.Rule.{Rule}
+use Rattle.vg_top.specs.declared.needs.Needs.{Needs}
+use Rattle.vg_top.specs.Reason.{lacking}
 use Rattle.vg_top.specs.Description.{HasTree, IsBuilt, IsUnlike, IsDescription, IsFaultOf}
-use Rattle.vg_top.specs.Faulting.{token_fault_of, fold_fault_of, IsBuildFault}
+use Rattle.vg_top.specs.Faulting.{token_fault_of, fold_fault_of, IsBuildFault, IsFaultFor}
 
 pub has_tree : (bytes : List ℕ) (tokens : List Token) (tree : Desc) → Lexes bytes tokens → Reads tokens tree → HasTree bytes tree
 has_tree bytes tokens tree l r = record { tokens = tokens; lexes = l; reads = r }
@@ -56,48 +62,51 @@ fold_faulty bytes tree has faults.OutOfMemory h = tt
 pub folded_itself : (tree : Desc) (plain : Plain) → IsFolded tree plain → IsFolded plain.description plain
 folded_itself tree plain folded = subst (λ (t : Desc). IsFolded t plain) (sym folded.description) folded
 
--- and what it hands on is what is known of that tree
-pub fitting : (tree : Desc) (worths : List Worth) (made : InPlace) (is : IsInPlace tree worths made) → Fits tree is.known worths made.aliases made.behaviours
-fitting tree worths made is = record {
-  constants_fit = λ text i. is.constants i text;
-  aliases_fit = λ text i. is.aliases i text;
-  behaviours_fit = is.behaviours;
+-- and the lists that it hands on are what is known of that tree
+pub fitting : (tree : Desc) (plain : Plain) → IsFolded tree plain → (worths : List Worth) (aliases : List Declared) (behaviours : List (Option Effect)) → worths ≡ plain.worths → aliases ≡ plain.aliases
+    → behaviours ≡ map (behaviour_of tree.items (known_of tree.items)) tree.items → Fits tree (known_of tree.items) worths aliases behaviours
+fitting tree plain folded worths aliases behaviours x y z = record {
+  constants_fit = λ text. sym (ap (λ (l : List Worth). constants_by tree.items l text) x ∙ (λ i. folded.constants i text));
+  aliases_fit = λ text. sym (ap (λ (l : List Declared). aliases_by tree.items l text) y ∙ (λ i. folded.aliases i text));
+  behaviours_fit = z;
 }
 
--- lists that are equal are known alike
-pub fitting_alike : (tree : Desc) (known : Known) (worths w : List Worth) (aliases a : List Declared) (behaviours b : List (Option Effect))
-    → w ≡ worths → a ≡ aliases → b ≡ behaviours → Fits tree known worths aliases behaviours → Fits tree known w a b
-fitting_alike tree known worths w aliases a behaviours b x y z fits =
-    subst (λ (l : List Worth). Fits tree known l a b) (sym x)
-    (subst (λ (l : List Declared). Fits tree known worths l b) (sym y)
-    (subst (λ (l : List (Option Effect)). Fits tree known worths aliases l) (sym z) fits))
+module _ (tree : Desc) where
+  pub is_built : (d : Parts) → (form : Form) × (form_of tree (known_of tree.items) ≡ found form) × (d ≡ parts_of form) → IsBuilt tree d
+  is_built d (form, so, parts) = record { form = form; built = so; parts = parts }
 
-module _ (tree : Desc) (known : Known) (is : IsKnown tree.items known) where
-  pub is_built : (d : Parts) → (form : Form) × (form_of tree known ≡ found form) × (d ≡ parts_of form) → IsBuilt tree d
-  is_built d (form, so, parts) = record { known = known; is_known = is; form = form; built = so; parts = parts }
-
-  pub told_unlike : (f : FormFault) → (f ≡ form_faults.OutOfMemory) ⊎ ((at : ℕ) × (f ≡ form_faults.Unlike at) × (form_of tree known ≡ unlike at))
+  pub told_unlike : (f : FormFault) → (f ≡ form_faults.OutOfMemory) ⊎ ((at : ℕ) × (f ≡ form_faults.Unlike at) × (form_of tree (known_of tree.items) ≡ unlike at))
       → (f ≡ form_faults.OutOfMemory) ⊎ ((at : ℕ) × (f ≡ form_faults.Unlike at) × IsUnlike tree at)
   told_unlike f (inl none) = inl none
-  told_unlike f (inr (at, same, so)) = inr (at, same, record { known = known; is_known = is; unlike_at = so })
+  told_unlike f (inr (at, same, so)) = inr (at, same, record { unlike_at = so })
 
 module _ (bytes : List ℕ) (tree : Desc) (has : HasTree bytes tree) (plain : Plain) (folded : IsFolded tree plain) where
-  pub described : (d : Parts) → IsBuilt plain.description d → IsDescription bytes d
-  described d built = record {
+  pub described : (d : Parts) → IsBuilt plain.description d → IsTrue (is_isa d) → IsDescription bytes d
+  described d built accepts = record {
     tree = tree;
     has_tree = has;
-    worths = plain.worths;
     accepted = folded.accepted;
     built = subst (λ (t : Desc). IsBuilt t d) folded.description built;
+    accepts = accepts;
   }
 
   pub build_faulty : (f : DescriptionFault) → IsBuildFault plain.description f → IsFaultOf bytes f
-  build_faulty (why.Broken rule at) h = absurd h
-  build_faulty (why.NotBuilt at) h = record {
+  build_faulty (why.Refused (reasons.Broken rule at)) h = absurd h
+  build_faulty (why.Refused (reasons.NotBuilt at)) h = record {
     tree = tree;
     has_tree = has;
-    worths = plain.worths;
     accepted = folded.accepted;
     unbuilt = subst (λ (t : Desc). IsUnlike t at) folded.description h;
   }
   build_faulty why.OutOfMemory h = tt
+
+-- why there is no processor, whatever is needed of it
+pub faulty_for : (bytes : List ℕ) (needs : Needs) (f : DescriptionFault) → IsFaultOf bytes f → IsFaultFor bytes needs f
+faulty_for bytes needs (why.Refused (reasons.Broken rule at)) h = inl h
+faulty_for bytes needs (why.Refused (reasons.NotBuilt at)) h = h
+faulty_for bytes needs why.OutOfMemory h = tt
+
+-- what is needed lacks
+pub lacking_fault : (bytes : List ℕ) (needs : Needs) (d : Parts) (rule : Rule) → IsDescription bytes d → lacking needs d ≡ Some rule
+    → IsFaultFor bytes needs (why.Refused (reasons.Broken rule (length bytes)))
+lacking_fault bytes needs d rule is lacks = inr (record { parts = d; description = is; lacks = lacks; place = refl })

@@ -3,7 +3,7 @@ use Rattle.std.proofs.Common.{◌≡◌, ℕ, zero, suc, ◌+◌, ◌*◌, ◌/�
 use Rattle.std.proofs.lemmas.Nat.{pow-add}
 use Rattle.std.proofs.Math.Nat.{pow-suc, pow-le-pow_right}
 use Rattle.std.proofs.lemmas.Bool.Decides.{nat_tests}
-use Rattle.vg_isa.specs.Typing.{is_machine_width}
+use Rattle.vg_isa.specs.Accepted.{is_machine_width}
 
 -- four bits a digit
 hex_power : (k : ℕ) → 16 ^ k ≡ 2 ^ (4 * k)

@@ -7,13 +7,11 @@ use Rattle.vg_ast.specs.Description.{Reads}
 use Rattle.vg_ast.specs.Leaving.{LeavesAt}
 use Rattle.vg_parse.proofs.Readers.{readers}
 use Rattle.vg_parse.proofs.Place.{tree_once, place_once, not_both}
-use Rattle.vg_whole.specs.declared.worth.Worth.{Worth}
 use Rattle.vg_const.specs.declared.fault.DescFault.{DescFault}
 use Rattle.vg_const.specs.declared.fault.DescFault.TheVariants as faults
 use Rattle.vg_const.specs.Rules.{IsAccepted, Breaks}
-use Rattle.vg_inline.specs.InPlace.{Known, IsKnown}
-use Rattle.vg_inline.proofs.KnownOnly.{only_is_known}
-use Rattle.vg_const.proofs.OneFault as folding
+use Rattle.vg_inline.specs.InPlace.{known_of}
+use Rattle.vg_const.proofs.OneAnswer as folding
 use Rattle.vg_isa.specs.declared.isa.Parts.{Parts}
 use Rattle.vg_form.specs.declared.form.Form.{Form}
 use Rattle.vg_form.specs.Form.{parts_of}
@@ -74,6 +72,8 @@ module _ (bytes : List ℕ) where
   split rules.Unknown at h = inr (faults.Unknown at, h, refl)
   split rules.Cyclic at h = inr (faults.Cyclic at, h, refl)
   split rules.Overflow at h = inr (faults.Overflow at, h, refl)
+  split rules.AbiRole at h = absurd h
+  split rules.StageOrder at h = absurd h
   split rules.Limit at h = inr (faults.Limit at, h, refl)
 
   one_split : (r s : Rule) (a b : ℕ) → Split r a → Split s b → (r ≡ s) × (a ≡ b)
@@ -86,39 +86,33 @@ module _ (bytes : List ℕ) where
   pub one_broken : (r s : Rule) (a b : ℕ) → IsBroken bytes r a → IsBroken bytes s b → (r ≡ s) × (a ≡ b)
   one_broken r s a b x y = one_split r s a b (split r a x) (split s b y)
 
-  accepted_or_split : (t : Desc) (worths : List Worth) (r : Rule) (a : ℕ) → HasTree bytes t → IsAccepted t worths → Split r a → ⊥
-  accepted_or_split t worths r a has accepted (inl (x, e)) = tree_or_syntax t a has x
-  accepted_or_split t worths r a has accepted (inr (f, (s, also, x), e)) =
-      folding.not_both t f worths (subst (λ (d : Desc). Breaks d f) (one_tree s t also has) x) accepted
+  accepted_or_split : (t : Desc) (r : Rule) (a : ℕ) → HasTree bytes t → IsAccepted t → Split r a → ⊥
+  accepted_or_split t r a has accepted (inl (x, e)) = tree_or_syntax t a has x
+  accepted_or_split t r a has accepted (inr (f, (s, also, x), e)) =
+      folding.not_both t f (subst (λ (d : Desc). Breaks d f) (one_tree s t also has) x) accepted
 
-  accepted_or_broken : (t : Desc) (worths : List Worth) (r : Rule) (a : ℕ) → HasTree bytes t → IsAccepted t worths → IsBroken bytes r a → ⊥
-  accepted_or_broken t worths r a has accepted x = accepted_or_split t worths r a has accepted (split r a x)
+  accepted_or_broken : (t : Desc) (r : Rule) (a : ℕ) → HasTree bytes t → IsAccepted t → IsBroken bytes r a → ⊥
+  accepted_or_broken t r a has accepted x = accepted_or_split t r a has accepted (split r a x)
 
   pub described_or_broken : (d : Parts) (r : Rule) (a : ℕ) → IsDescription bytes d → IsBroken bytes r a → ⊥
-  described_or_broken d r a h x = accepted_or_broken h.tree h.worths r a h.has_tree h.accepted x
+  described_or_broken d r a h x = accepted_or_broken h.tree r a h.has_tree h.accepted x
 
   pub unbuilt_or_broken : (at : ℕ) (r : Rule) (a : ℕ) → IsUnbuilt bytes at → IsBroken bytes r a → ⊥
-  unbuilt_or_broken at r a h x = accepted_or_broken h.tree h.worths r a h.has_tree h.accepted x
+  unbuilt_or_broken at r a h x = accepted_or_broken h.tree r a h.has_tree h.accepted x
 
-  known_once : (t : Desc) (worths : List Worth) (a b : Known) → IsAccepted t worths → IsKnown t.items a → IsKnown t.items b → a ≡ b
-  known_once t worths a b accepted x y =
-      let sorted = accepted.2.measured.whole.acyclic in only_is_known t accepted.0 a b sorted.named.distinct sorted.sorted x y
-
-  one_form : (s t : Desc) (worths : List Worth) (a b : Known) → HasTree bytes s → HasTree bytes t → IsAccepted s worths → IsKnown s.items a → IsKnown t.items b → form_of s a ≡ form_of t b
-  one_form s t worths a b has also accepted x y =
-      ap (form_of s) (known_once s worths a b accepted x (subst (λ (d : Desc). IsKnown d.items b) (one_tree t s also has) y))
-      ∙ ap (λ (d : Desc). form_of d b) (one_tree s t has also)
+  one_form : (s t : Desc) → HasTree bytes s → HasTree bytes t → form_of s (known_of s.items) ≡ form_of t (known_of t.items)
+  one_form s t has also = ap (λ (d : Desc). form_of d (known_of d.items)) (one_tree s t has also)
 
   pub one_description : (d e : Parts) → IsDescription bytes d → IsDescription bytes e → d ≡ e
   one_description d e x y =
       x.built.parts
-      ∙ ap parts_of (ap (found_or x.built.form) (sym x.built.built ∙ one_form x.tree y.tree x.worths x.built.known y.built.known x.has_tree y.has_tree x.accepted x.built.is_known y.built.is_known ∙ y.built.built))
+      ∙ ap parts_of (ap (found_or x.built.form) (sym x.built.built ∙ one_form x.tree y.tree x.has_tree y.has_tree ∙ y.built.built))
       ∙ sym y.built.parts
 
   pub one_unbuilt : (a b : ℕ) → IsUnbuilt bytes a → IsUnbuilt bytes b → a ≡ b
   one_unbuilt a b x y =
-      ap (place_or a) (sym x.unbuilt.unlike_at ∙ one_form x.tree y.tree x.worths x.unbuilt.known y.unbuilt.known x.has_tree y.has_tree x.accepted x.unbuilt.is_known y.unbuilt.is_known ∙ y.unbuilt.unlike_at)
+      ap (place_or a) (sym x.unbuilt.unlike_at ∙ one_form x.tree y.tree x.has_tree y.has_tree ∙ y.unbuilt.unlike_at)
 
   pub described_or_unbuilt : (d : Parts) (a : ℕ) → IsDescription bytes d → IsUnbuilt bytes a → ⊥
   described_or_unbuilt d a x y =
-      subst is_found (sym x.built.built ∙ one_form x.tree y.tree x.worths x.built.known y.unbuilt.known x.has_tree y.has_tree x.accepted x.built.is_known y.unbuilt.is_known ∙ y.unbuilt.unlike_at) tt
+      subst is_found (sym x.built.built ∙ one_form x.tree y.tree x.has_tree y.has_tree ∙ y.unbuilt.unlike_at) tt

@@ -1,7 +1,7 @@
 -- Which processor the text of a description stands for; or which rule it breaks first, and where; or what in it isn't
 -- built yet. The rules are asked in this order: the text has a tree; nothing is defined twice; all names are known;
 -- nothing uses itself; no operator leaves the whole numbers; no behaviour has too many nodes.
-use Rattle.std.specs.Prelude.{◌≡◌, ◌⊎◌, ⊤, ℕ, List}
+use Rattle.std.specs.Prelude.{◌≡◌, ◌⊎◌, ⊤, ℕ, List, IsTrue}
 use Rattle.vg_tok.specs.declared.token.Token.{Token}
 use Rattle.vg_tok.specs.declared.fault.TokFault.{TokFault}
 use Rattle.vg_tok.specs.declared.fault.TokFault.TheVariants as token_faults
@@ -9,12 +9,12 @@ use Rattle.vg_tok.specs.Lexing.{Lexes, IsFault}
 use Rattle.vg_ast.specs.declared.desc.Desc.{Desc}
 use Rattle.vg_ast.specs.Description.{Reads}
 use Rattle.vg_ast.specs.Leaving.{LeavesAt}
-use Rattle.vg_whole.specs.declared.worth.Worth.{Worth}
 use Rattle.vg_const.specs.declared.fault.DescFault.{DescFault}
 use Rattle.vg_const.specs.declared.fault.DescFault.TheVariants as faults
 use Rattle.vg_const.specs.Rules.{IsAccepted, Breaks}
-use Rattle.vg_inline.specs.InPlace.{Known, IsKnown}
+use Rattle.vg_inline.specs.InPlace.{known_of}
 use Rattle.vg_isa.specs.declared.isa.Parts.{Parts}
+use Rattle.vg_isa.specs.Accepted.{is_isa}
 use Rattle.vg_form.specs.declared.form.Form.{Form}
 use Rattle.vg_form.specs.Form.{parts_of}
 use Rattle.vg_form.specs.Description.{form_of, found, unlike}
@@ -22,6 +22,8 @@ use Rattle.vg_top.specs.declared.rule.Rule.{Rule}
 use Rattle.vg_top.specs.declared.rule.Rule.TheVariants as rules
 use Rattle.vg_top.specs.declared.description_fault.DescriptionFault.{DescriptionFault}
 use Rattle.vg_top.specs.declared.description_fault.DescriptionFault.TheVariants as why
+use Rattle.vg_top.specs.declared.reason.Reason.{Reason}
+use Rattle.vg_top.specs.declared.reason.Reason.TheVariants as reasons
 
 -- the tokens of the text have this tree
 pub record HasTree (bytes : List ℕ) (tree : Desc) : Type 0 where
@@ -31,32 +33,27 @@ pub record HasTree (bytes : List ℕ) (tree : Desc) : Type 0 where
 
 -- with everything in place of its names the tree is of the form of these parts
 pub record IsBuilt (tree : Desc) (d : Parts) : Type 0 where
-  pub known : Known
-  pub is_known : IsKnown tree.items known
   pub form : Form
-  pub built : form_of tree known ≡ found form
+  pub built : form_of tree (known_of tree.items) ≡ found form
   pub parts : d ≡ parts_of form
 
 -- with everything in place of its names this is the place of the first thing in the tree that isn't of the form
 pub record IsUnlike (tree : Desc) (at : ℕ) : Type 0 where
-  pub known : Known
-  pub is_known : IsKnown tree.items known
-  pub unlike_at : form_of tree known ≡ unlike at
+  pub unlike_at : form_of tree (known_of tree.items) ≡ unlike at
 
--- the text keeps all rules, and is the description of these parts
+-- the text keeps all rules, and is the description of these parts, which keep what an accepted description keeps
 pub record IsDescription (bytes : List ℕ) (d : Parts) : Type 0 where
   pub tree : Desc
   pub has_tree : HasTree bytes tree
-  pub worths : List Worth
-  pub accepted : IsAccepted tree worths
+  pub accepted : IsAccepted tree
   pub built : IsBuilt tree d
+  pub accepts : IsTrue (is_isa d)
 
 -- the text keeps all rules, and the first thing in it that isn't built yet is here
 pub record IsUnbuilt (bytes : List ℕ) (at : ℕ) : Type 0 where
   pub tree : Desc
   pub has_tree : HasTree bytes tree
-  pub worths : List Worth
-  pub accepted : IsAccepted tree worths
+  pub accepted : IsAccepted tree
   pub unbuilt : IsUnlike tree at
 
 abbrev pub place_of : TokFault → ℕ
@@ -74,17 +71,24 @@ IsSyntaxFault bytes at =
 abbrev pub BreaksFirst : List ℕ → DescFault → Type 0
 BreaksFirst bytes fault = (tree : Desc) × HasTree bytes tree × Breaks tree fault
 
--- this is the first rule that the text breaks, and the first place where it does
+-- This is the first rule that the text breaks, and the first place where it does. The two of the application binary
+-- interface and of the stages aren't asked yet of what a text has of them.
 abbrev pub IsBroken : List ℕ → Rule → ℕ → Type 0
 IsBroken bytes rules.Syntax at = IsSyntaxFault bytes at
 IsBroken bytes rules.Duplicate at = BreaksFirst bytes (faults.Duplicate at)
 IsBroken bytes rules.Unknown at = BreaksFirst bytes (faults.Unknown at)
 IsBroken bytes rules.Cyclic at = BreaksFirst bytes (faults.Cyclic at)
 IsBroken bytes rules.Overflow at = BreaksFirst bytes (faults.Overflow at)
+IsBroken bytes rules.AbiRole at = ⊥
+IsBroken bytes rules.StageOrder at = ⊥
 IsBroken bytes rules.Limit at = BreaksFirst bytes (faults.Limit at)
+
+-- the text is refused for this reason, whatever a command needs of it
+abbrev pub IsRefused : List ℕ → Reason → Type 0
+IsRefused bytes (reasons.Broken rule at) = IsBroken bytes rule at
+IsRefused bytes (reasons.NotBuilt at) = IsUnbuilt bytes at
 
 -- why there is no processor of the text; want of memory has no cause
 abbrev pub IsFaultOf : List ℕ → DescriptionFault → Type 0
-IsFaultOf bytes (why.Broken rule at) = IsBroken bytes rule at
-IsFaultOf bytes (why.NotBuilt at) = IsUnbuilt bytes at
+IsFaultOf bytes (why.Refused reason) = IsRefused bytes reason
 IsFaultOf bytes why.OutOfMemory = ⊤

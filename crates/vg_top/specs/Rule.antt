@@ -9,6 +9,8 @@ number_of rules.Duplicate = 2
 number_of rules.Unknown = 3
 number_of rules.Cyclic = 4
 number_of rules.Overflow = 5
+number_of rules.AbiRole = 15
+number_of rules.StageOrder = 16
 number_of rules.Limit = 18
 
 abbrev pub name_of : Rule → List ℕ
@@ -17,4 +19,6 @@ name_of rules.Duplicate = codes "Duplicate"
 name_of rules.Unknown = codes "Unknown"
 name_of rules.Cyclic = codes "Cyclic"
 name_of rules.Overflow = codes "Overflow"
+name_of rules.AbiRole = codes "AbiRole"
+name_of rules.StageOrder = codes "StageOrder"
 name_of rules.Limit = codes "Limit"

@@ -1,26 +1,30 @@
-ghost use Rattle.std.specs.Prelude.{◌≡◌, ◌⊎◌, ℕ, List, IfOk, IfErr, IsTrue};
+ghost use Rattle.std.specs.Prelude.{◌≡◌, ◌⊎◌, ℕ, List, None, IfOk, IfErr, IsTrue};
 ghost use Rattle.vg_tok.specs.Lexing.{Lexes};
 ghost use Rattle.vg_ast.specs.Description.{Reads};
 ghost use Rattle.vg_iss.specs.Kept.{is_memory_free};
 ghost use Rattle.vg_const.specs.Rules.{IsFolded};
 ghost use Rattle.vg_top.specs.Description.{HasTree, IsBuilt, IsUnlike, IsDescription, IsFaultOf};
-ghost use Rattle.vg_top.specs.Faulting.{token_fault_of, fold_fault_of, IsBuildFault};
+ghost use Rattle.vg_top.specs.Reason.{lacking};
+ghost use Rattle.vg_top.specs.Faulting.{token_fault_of, IsBuildFault, IsFaultFor};
 
 use crate::description_fault::DescriptionFault;
+use crate::folding::folded;
+use crate::needs::Needs;
+use crate::reason::Reason;
 use crate::rule::Rule;
 use sqlite_items::Items;
 use std::alloc::Global;
 use vg_ast::Desc;
-use vg_const::{DescFault, Plain, fold};
+use vg_const::{Plain, behaviours};
 use vg_form::{FormFault, isa_of};
 use vg_isa::Isa;
 use vg_parse::{ParseFault, parse};
 use vg_tok::{TokFault, Token, tokens};
 
-fn broken(rule: Rule, at: usize) -> DescriptionFault
-    ensures { result ≡ DescriptionFault.Broken rule at }
+pub(crate) fn broken(rule: Rule, at: usize) -> DescriptionFault
+    ensures { result ≡ DescriptionFault.Refused (Reason.Broken rule at) }
 {
-    DescriptionFault::Broken { rule, at }
+    DescriptionFault::Refused(Reason::Broken { rule, at })
 }
 
 fn token_fault(fault: TokFault) -> DescriptionFault
@@ -32,19 +36,6 @@ fn token_fault(fault: TokFault) -> DescriptionFault
             at,
         ),
         TokFault::OutOfMemory => DescriptionFault::OutOfMemory,
-    }
-}
-
-fn fold_fault(fault: DescFault) -> DescriptionFault
-    ensures { result ≡ fold_fault_of fault }
-{
-    match fault {
-        DescFault::Duplicate { at } => broken(Rule::Duplicate, at),
-        DescFault::Unknown { at } => broken(Rule::Unknown, at),
-        DescFault::Cyclic { at } => broken(Rule::Cyclic, at),
-        DescFault::Overflow { at } => broken(Rule::Overflow, at),
-        DescFault::Limit { at } => broken(Rule::Limit, at),
-        DescFault::OutOfMemory => DescriptionFault::OutOfMemory,
     }
 }
 
@@ -82,17 +73,6 @@ fn tree_of(alloc: Global, text: &[u8]) -> Result<Desc, DescriptionFault>
     tree_of_tokens(alloc, tokens.as_slice())
 }
 
-/// The folded description of a tree.
-fn folded(alloc: Global, tree: Desc) -> Result<Plain, DescriptionFault>
-    ensures plain { IfOk result (λ plain. IsFolded tree plain) }
-    ensures fault { IfErr result (λ fault. (bytes : List ℕ) → HasTree bytes tree → IsFaultOf bytes fault) }
-{
-    match fold(alloc, tree) {
-        Ok(plain) => Ok(plain),
-        Err(fault) => Err(fold_fault(fault)),
-    }
-}
-
 /// The processor of a folded description, or the place of the first thing that isn't built yet.
 fn isa_of_plain(alloc: Global, plain: &Plain) -> Result<Isa, FormFault>
     requires folded { IsFolded plain.now.description plain.now }
@@ -100,12 +80,13 @@ fn isa_of_plain(alloc: Global, plain: &Plain) -> Result<Isa, FormFault>
     ensures memory_free { IfOk result (λ isa. IsTrue (is_memory_free isa)) }
     ensures fault { IfErr result (λ f. (f ≡ FormFault.OutOfMemory) ⊎ ((at : ℕ) × (f ≡ FormFault.Unlike at) × IsUnlike plain.now.description at)) }
 {
+    let behaviours = behaviours(alloc, plain)?;
     isa_of(
         alloc,
         &plain.description,
         plain.worths.as_slice(),
-        plain.in_place.aliases.as_slice(),
-        plain.in_place.behaviours.as_slice(),
+        plain.aliases.as_slice(),
+        behaviours.as_slice(),
     )
 }
 
@@ -118,19 +99,40 @@ fn built(alloc: Global, plain: &Plain) -> Result<Isa, DescriptionFault>
 {
     match isa_of_plain(alloc, plain) {
         Ok(isa) => Ok(isa),
-        Err(FormFault::Unlike { at }) => Err(DescriptionFault::NotBuilt { at }),
+        Err(FormFault::Unlike { at }) => Err(DescriptionFault::Refused(Reason::NotBuilt { at })),
         Err(FormFault::OutOfMemory) => Err(DescriptionFault::OutOfMemory),
     }
 }
 
 /// The processor that a text describes, or why there is none.
 #[tactic(auto, using(crate::proofs::Described::folded_itself, crate::proofs::Described::described, crate::proofs::Described::build_faulty))]
-pub(crate) fn description_of(alloc: Global, text: &[u8]) -> Result<Isa, DescriptionFault>
+fn description_of(alloc: Global, text: &[u8]) -> Result<Isa, DescriptionFault>
     ensures isa { IfOk result (λ isa. IsDescription text.now isa) }
     ensures memory_free { IfOk result (λ isa. IsTrue (is_memory_free isa)) }
     ensures fault { IfErr result (λ fault. IsFaultOf text.now fault) }
 {
     let tree = tree_of(alloc, text)?;
     let plain = folded(alloc, tree)?;
-    built(alloc, &plain)
+    let isa = built(alloc, &plain)?;
+    let _ = isa.parts();
+    Ok(isa)
+}
+
+/// The processor that a text describes with what a command needs, or why there is none.
+#[tactic(auto, using(crate::proofs::Described::faulty_for, crate::proofs::Described::lacking_fault))]
+pub(crate) fn description_for(
+    alloc: Global,
+    text: &[u8],
+    needs: Needs,
+) -> Result<Isa, DescriptionFault>
+    ensures isa { IfOk result (λ isa. IsDescription text.now isa) }
+    ensures needs { IfOk result (λ isa. lacking needs isa ≡ None) }
+    ensures memory_free { IfOk result (λ isa. IsTrue (is_memory_free isa)) }
+    ensures fault { IfErr result (λ fault. IsFaultFor text.now needs fault) }
+{
+    let isa = description_of(alloc, text)?;
+    match needs.lacking(&isa) {
+        None => Ok(isa),
+        Some(rule) => Err(broken(rule, text.len())),
+    }
 }

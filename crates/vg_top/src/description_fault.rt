@@ -1,13 +1,10 @@
-use crate::rule::Rule;
+use crate::reason::Reason;
 use std::alloc::AllocError;
 
-/// Why no processor is made of a text. A place is the offset of a byte, from 0.
-#[derive(Clone, Copy, Debug, PartialEq, Eq)]
+/// Why no processor is made of a text.
+#[derive(Debug, Drop)]
 pub(crate) enum DescriptionFault {
-    /// This is the first rule that the text breaks, and the first place where it does.
-    Broken { rule: Rule, at: usize },
-    /// No rule is broken, but the first thing that isn't built yet begins here.
-    NotBuilt { at: usize },
+    Refused(Reason),
     OutOfMemory,
 }
 

@@ -1,7 +1,10 @@
 //! The lines of refusals and the line of usage, each whole.
-ghost use Rattle.std.specs.Prelude.{◌≡◌, ◌++◌, IfOk, OnOk};
+ghost use Rattle.std.specs.Prelude.{◌≡◌, ◌++◌, ◌<◌, ◌^◌, IfOk, OnOk, length};
+ghost use Rattle.vg_top.specs.Reason as Reasons;
 ghost use Rattle.vg_top.specs.Refusal as Lines;
 
+use crate::position::position;
+use crate::reason::Reason;
 use crate::rule::Rule;
 use std::alloc::{AllocError, Global};
 use vg_text::number::push_decimal;
@@ -28,7 +31,7 @@ fn push_place(text: &mut Vec<u8>, at: (u64, u64)) -> Result<(), AllocError>
 }
 
 /// A rule of descriptions is broken at this line and column.
-pub(crate) fn rule_broken(alloc: Global, rule: Rule, at: (u64, u64)) -> Result<Vec<u8>, AllocError>
+fn rule_broken(alloc: Global, rule: Rule, at: (u64, u64)) -> Result<Vec<u8>, AllocError>
     ensures { IfOk result (λ text. text.items ≡ Lines.rule_broken rule at) }
 {
     let mut text = Vec::new(alloc);
@@ -53,8 +56,23 @@ pub(crate) fn not_built(alloc: Global, at: (u64, u64)) -> Result<Vec<u8>, AllocE
     Ok(text)
 }
 
+/// Why a description is refused.
+pub(crate) fn reason_line(
+    alloc: Global,
+    text: &[u8],
+    reason: &Reason,
+) -> Result<Vec<u8>, AllocError>
+    requires { length text.now < 2 ^ 32 }
+    ensures { IfOk result (λ line. line.items ≡ Reasons.reason_line text.now reason.now) }
+{
+    match reason {
+        Reason::Broken { rule, at } => rule_broken(alloc, *rule, position(text, *at)),
+        Reason::NotBuilt { at } => not_built(alloc, position(text, *at)),
+    }
+}
+
 /// An image's text leaves the spellings at this line, from 1.
-pub(crate) fn image_refused(alloc: Global, line: u64) -> Result<Vec<u8>, AllocError>
+pub(crate) fn image_line(alloc: Global, line: u64) -> Result<Vec<u8>, AllocError>
     ensures { IfOk result (λ text. text.items ≡ Lines.image_refused line) }
 {
     let mut text = Vec::new(alloc);

@@ -14,6 +14,10 @@ pub enum Rule {
     Cyclic,
     /// No operator leaves the whole numbers.
     Overflow,
+    /// The application binary interface keeps its rules, and is there where a command needs it.
+    AbiRole,
+    /// The stages keep theirs, and are there where a command needs them.
+    StageOrder,
     /// No behaviour has too many nodes.
     Limit,
 }
@@ -29,6 +33,8 @@ impl Rule {
             Rule::Unknown => 3,
             Rule::Cyclic => 4,
             Rule::Overflow => 5,
+            Rule::AbiRole => 15,
+            Rule::StageOrder => 16,
             Rule::Limit => 18,
         }
     }
@@ -43,6 +49,8 @@ impl Rule {
             Rule::Unknown => b"Unknown",
             Rule::Cyclic => b"Cyclic",
             Rule::Overflow => b"Overflow",
+            Rule::AbiRole => b"AbiRole",
+            Rule::StageOrder => b"StageOrder",
             Rule::Limit => b"Limit",
         }
     }

@@ -1,6 +1,6 @@
 use Rattle.std.proofs.Common.{sym, ◌∙◌, arith, Some}
 use Rattle.vg_iss.specs.Simulator.{state_of}
-use Rattle.vg_iss.proofs.Runs.{Ends, behind_more, ran_over, ran_whole}
+use Rattle.vg_iss.proofs.Runs.{Ends, behind_more, ran_over}
 use Rattle.vg_iss.proofs.iss.Iss.run.Goals as goal
 
 pub loop-done-preserved : goal.loop-done-preserved

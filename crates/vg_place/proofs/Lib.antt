@@ -1,0 +1,4 @@
+pub mod Lateness
+pub mod Firsts
+pub mod Bounds
+pub mod Agreeing

@@ -1,0 +1,5 @@
+pub mod Stage
+pub mod Unplaced
+pub mod Planned
+pub mod Time
+pub mod Reading

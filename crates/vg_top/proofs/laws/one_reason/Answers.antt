@@ -1,0 +1,5 @@
+use Rattle.vg_top.proofs.OneReason as one
+use Rattle.vg_top.proofs.laws.one_reason.Goals as goal
+
+pub returns : goal.returns
+returns c = record { alike = one.one_reason; described_or_refused = one.described_or_refused }

@@ -1,0 +1,4 @@
+-- The reports of commands.
+pub mod Check
+pub mod Run
+pub mod State
