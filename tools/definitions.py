@@ -30,7 +30,9 @@ class Module:
     """A file of specs/: what its names stand for, and its definitions in their order."""
 
     def __init__(self, crate, path):
-        self.crate, self.file = crate, os.path.splitext(os.path.basename(path))[0]
+        self.crate = crate
+        inside = os.path.relpath(path, os.path.join(TOP, "crates", crate, "specs"))
+        self.file = os.path.splitext(inside)[0].replace(os.sep, ".")
         self.names, self.wholes, self.definitions = {}, {}, []
         with open(path, encoding="utf-8") as opened:
             self.read(opened.read())
@@ -41,8 +43,8 @@ class Module:
             if line.startswith("use "):
                 uses(line, self.names, self.wholes)
                 above, current = [], None
-            elif line.startswith("-- "):
-                above.append(line[3:].strip())
+            elif re.match(r"\s*-- ", line) and current is None:
+                above.append(line.strip()[3:].strip())
             elif not line.strip():
                 above = [] if current is None else above
                 current = current if line else None
@@ -83,11 +85,11 @@ def uses(line, names, wholes):
 def all_modules():
     modules = {}
     for crate in sorted(os.listdir(os.path.join(TOP, "crates"))):
-        folder = os.path.join(TOP, "crates", crate, "specs")
-        for file in sorted(os.listdir(folder)) if os.path.isdir(folder) else []:
-            if file.endswith(".antt") and file != "Lib.antt":
-                module = Module(crate, os.path.join(folder, file))
-                modules[crate, module.file] = module
+        for folder, _, files in sorted(os.walk(os.path.join(TOP, "crates", crate, "specs"))):
+            for file in sorted(files):
+                if file.endswith(".antt") and file != "Lib.antt":
+                    module = Module(crate, os.path.join(folder, file))
+                    modules[crate, module.file] = module
     return modules
 
 
@@ -166,7 +168,7 @@ def lines_of(definitions, modules):
     for it in definitions:
         files.setdefault(it.module, []).append(it)
     for module, found in files.items():
-        yield "`crates/%s/specs/%s.antt`\n" % module
+        yield "`crates/%s/specs/%s.antt`\n" % (module[0], module[1].replace(".", "/"))
         for it in sorted(found, key=lambda it: it.line):
             yield "- `%s`%s" % (it.name, ": " + it.sentence if it.sentence else "")
         yield ""
@@ -192,7 +194,7 @@ def main():
         for module in modules.values():
             for it in module.definitions:
                 if it.is_public and not it.sentence:
-                    print("crates/%s/specs/%s.antt:%d: %s" % (it.module + (it.line, it.name)))
+                    print("crates/%s/specs/%s.antt:%d: %s" % (*it.module, it.line, it.name))
         return
     with open(PAGE, encoding="utf-8") as opened:
         page = opened.read()

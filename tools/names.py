@@ -326,10 +326,10 @@ BINARY = set("| ^ & = != < <= > >= << >> + - * *# / %".split())
 
 
 def binary_worth(sign, a, b):
-    if BROKEN in (a, b):
-        return BROKEN
     if TYPED in (a, b) or sign not in COMPUTED:
         return TYPED
+    if BROKEN in (a, b):
+        return BROKEN
     n = COMPUTED[sign](a, b)
     return n if 0 <= n < 2 ** 128 else BROKEN
 
@@ -346,7 +346,9 @@ class Worths:
         if self.d.kind(text) != "constant":
             return TYPED
         if text not in self.constants:
-            self.constants[text] = self.of(self.d.item_of[text].parts[1], {})
+            # a constant whose expression is no whole number is one without a value
+            worth = self.of(self.d.item_of[text].parts[1], {})
+            self.constants[text] = BROKEN if worth == TYPED else worth
         return self.constants[text]
 
     def of(self, e, inner):
@@ -448,9 +450,10 @@ class Nodes:
         self.call = lru_cache(None)(self.call)
 
     def constant(self, text):
-        # the name of a constant is a whole number, so one node; that its value is none is for a later rule
+        # the name of a constant is a whole number, so one node; that it has no value is for a later rule
         if text not in self.constants:
-            self.constants[text] = self.of(self.d.item_of[text].parts[1], {})[0], 1
+            worth = self.of(self.d.item_of[text].parts[1], {})[0]
+            self.constants[text] = BROKEN if worth == TYPED else worth, 1
         return self.constants[text]
 
     def call(self, text, arguments):

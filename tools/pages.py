@@ -12,6 +12,8 @@ PAGES = ["README.md", *sorted(glob.glob("docs/*.md"))]
 # made by a build, or standing for any such file
 NOT_KEPT = re.compile(r"/out/|[*<>{}]|NAME|BUG|\.\.\.")
 PATH = re.compile(r"(?:\./)?(?:crates|docs|tools|examples|dist|\.ci)/[\w./-]+")
+# names of the standard library and of the C library
+OUTSIDE = {"aligned_alloc", "to_string"}
 NAME = re.compile(r"[A-Za-z][A-Za-z0-9]*(?:_[A-Za-z0-9]+)+|(?:[A-Z][a-z0-9]+){2,}")
 
 
@@ -34,7 +36,7 @@ def lacking(page, known):
             if not NOT_KEPT.search(code) and not os.path.exists(path.rstrip("./")):
                 yield path
         if "/" not in code:
-            yield from (it for it in NAME.findall(code) if it not in known)
+            yield from (it for it in NAME.findall(code) if it not in known | OUTSIDE)
 
 
 def main():

@@ -71,6 +71,7 @@ count_none p (x ∷ xs) each =
     omega arith
 
 module _ (intervals : List Interval) (saved now : ℕ) (all seen : List Arrival) (registers : ℕ) (active : List ℕ) (best : IsBest intervals saved now all seen registers active) where
+  -- time goes on
   pub IsBest-later : (later : ℕ) → now ≤ later → IsBest intervals saved later all seen registers active
   IsBest-later later on = record { best = λ chosen feasible place from. best.best chosen feasible place (omega arith) }
 

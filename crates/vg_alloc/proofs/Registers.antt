@@ -17,9 +17,11 @@ use Rattle.vg_alloc.specs.Ends.{end_of}
 use Rattle.vg_alloc.specs.Active.{Lacks, InsertsAt}
 use Rattle.vg_alloc.specs.Scan.{IsAmong, HasArrived, Fits}
 
+-- registers are one where their places are
 pub same_register : (a b : ℕ) → Saved a ≡ Saved b → a ≡ b
 same_register a b h = cc
 
+-- a slot is no register
 pub slot-saved : (a b : ℕ) → Slot a ≡ Saved b → ⊥
 slot-saved a b h = cc
 
@@ -208,6 +210,7 @@ module _ (intervals : List Interval) (saved now : ℕ) (seen : List Arrival) (pl
     | inr (_, other) ↦ (other, sym (placed_other places f u (Slot (f + 2)) other) ∙ holds_q)
   ]
 
+  -- the law
   pub Fits-evicted : Fits intervals saved now now seen evicted rest (free ++ r ∷ []) used
   Fits-evicted =
       let room = fits.room in
@@ -319,6 +322,7 @@ module _ (intervals : List Interval) (saved now : ℕ) (seen : List Arrival) (pl
     arrived : (u : ℕ) → HasArrived seen u → HasArrived (seen ++ x ∷ []) u
     arrived u has = (has.0, has.1, at_push_before seen x has.0 has.1 has.2, has.3)
 
+    -- the law
     pub Fits-kept : Fits intervals saved now now (seen ++ x ∷ []) kept active_then free_then used_then
     Fits-kept =
         let longer = ap (λ (xs : List ℕ). length xs) inserts.is ∙ length-insert active inserts.place x.value inserts.within in

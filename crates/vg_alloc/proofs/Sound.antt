@@ -22,6 +22,7 @@ use Rattle.vg_alloc.proofs.Taking.{arrival, arrival-facts, seen-more, begun}
 pub sorted_rest : (n : ℕ → ℕ) (x : ℕ) (xs : List ℕ) → IsNonDecreasingBy n (x ∷ xs) → IsNonDecreasingBy n xs
 sorted_rest n x xs sorted i j d from below = sorted (suc i) (suc j) d (omega arith) (omega arith)
 
+-- and so is what stands before its last
 pub sorted_front : (n : ℕ → ℕ) (xs : List ℕ) (x : ℕ) → IsNonDecreasingBy n (xs ++ x ∷ []) → IsNonDecreasingBy n xs
 sorted_front n xs x sorted i j d from below =
     let longer = length_push xs x in
@@ -40,6 +41,7 @@ first_least n xs first v sorted at among =
     let b = ap n (get_or_from_slice_get xs among.0 v 0 among.1) in
     omega arith
 
+-- the last one is the greatest
 pub last_greatest : (n : ℕ → ℕ) (xs : List ℕ) (last v : ℕ) → IsNonDecreasingBy n xs → last_of xs ≡ Some last → IsAmong xs v → n v ≤ n last
 last_greatest n xs last v sorted at among =
     let within = slice_get_within xs among.0 v among.1 in
@@ -48,10 +50,12 @@ last_greatest n xs last v sorted at among =
     let b = ap n (get_or_from_slice_get xs among.0 v 0 among.1) in
     omega arith
 
+-- a list without a first element is empty
 pub none_first : (xs : List ℕ) (v : ℕ) → slice_get xs 0 ≡ None → IsAmong xs v → ⊥
 none_first [] v is among = none-some v among.1
 none_first (x ∷ xs) v is among = none-some x (sym is)
 
+-- and so is one without a last
 pub none_last : (xs : List ℕ) (v : ℕ) → last_of xs ≡ None → IsAmong xs v → ⊥
 none_last xs v is among =
     let within = slice_get_within xs among.0 v among.1 in
@@ -59,6 +63,7 @@ none_last xs v is among =
     none-some (get_or xs (length xs - 1) 0) (sym is ∙ slice_get-get_or xs (length xs - 1) 0 last)
 
 module _ (work : Work) (number : ℕ) where
+  -- time goes on
   pub IsSound-later : (past now : ℕ) (s : Scan) → past ≤ now → IsSound work number past past s → IsSound work number past now s
   IsSound-later past now s on sound = record {
     fitting = record {
@@ -68,6 +73,7 @@ module _ (work : Work) (number : ℕ) where
     best = IsBest-later work.intervals.now work.saved past work.arrivals.now (take number work.arrivals.now) (count_by is_saved s.places.items) (members s.active) sound.best now on;
   }
 
+  -- no active value has ended
   pub IsSound-now : (past now : ℕ) (s : Scan) → ((v : ℕ) → IsAmong (members s.active) v → now ≤ end_of work.intervals.now v) → IsSound work number past now s → IsSound work number now now s
   IsSound-now past now s left sound = record {
     fitting = record {
@@ -87,6 +93,7 @@ module _ (work : Work) (number : ℕ) (below : number < length work.arrivals.now
   ends : end_of work.intervals.now x.value ≡ x.last
   ends = ap (λ (i : Interval). i.1) (arrival-facts work number below arranged).1
 
+  -- the value of the arrival got a register that was free
   pub IsSound-kept : (t : Scan) → IsSound work number now now s → IsFitting work (number + 1) now now t → count_by is_saved t.places.items ≡ count_by is_saved s.places.items + 1
       → InsertsAt (end_of work.intervals.now) x.value (members s.active) (members t.active) → IsSound work (number + 1) now now t
   IsSound-kept t sound fitting registers inserts = record {
@@ -102,6 +109,7 @@ module _ (work : Work) (number : ℕ) (below : number < length work.arrivals.now
     left : (v : ℕ) → IsAmong (members s.active) v → now ≤ end_of work.intervals.now v
     left v among = (sound.fitting.fits.members v among).3
 
+    -- it ends last, and got none
     pub IsSound-passed : ((v : ℕ) → IsAmong (members s.active) v → end_of work.intervals.now v ≤ x.last) → IsSound work (number + 1) now now s
     IsSound-passed last = record {
       fitting = record {
@@ -115,6 +123,7 @@ module _ (work : Work) (number : ℕ) (below : number < length work.arrivals.now
           subst (λ (seen : List Arrival). IsBest work.intervals.now work.saved now work.arrivals.now seen (count_by is_saved s.places.items) (members s.active)) (sym (seen-more work number below arranged)) best;
     }
 
+    -- it got the register of the one that ended last
     pub IsSound-replaced : (mid t : Scan) (f : ℕ) → last_of (members s.active) ≡ Some f → x.last < end_of work.intervals.now f → members s.active ≡ members mid.active ++ f ∷ [] → count_by is_saved mid.places.items + 1 ≡ count_by is_saved s.places.items
         → IsFitting work (number + 1) now now t → count_by is_saved t.places.items ≡ count_by is_saved mid.places.items + 1 → InsertsAt (end_of work.intervals.now) x.value (members mid.active) (members t.active) → IsSound work (number + 1) now now t
     IsSound-replaced mid t f last sooner is fewer fitting more inserts = record {

@@ -98,6 +98,7 @@ module _ (intervals : List Interval) (arrivals : List Arrival) (permutation : Is
         )
   ]
 
+  -- sorted, they are the arrivals
   pub AreArrivals-sorted : All (λ (interval : Interval). interval.0 ≤ interval.1) intervals → IsNonDecreasingBy (λ (a : Arrival). a.first) arrivals → AreArrivals intervals arrivals
   AreArrivals-sorted order sorted = record { intervals_are = belong order; once = once; sorted = sorted }
 
@@ -108,6 +109,7 @@ all_slots n v r is = elim (cases_lt v n) [
   | inr over ↦ slot-saved 0 r (sym (get_or_past (slots n) v (Slot 0) (let l = length-map-range_with_len slot_of 0 n in omega arith)) ∙ is)
 ]
 
+-- no register is taken
 pub Fits-start : (intervals : List Interval) (saved now : ℕ) → Fits intervals saved now now [] (slots (length intervals)) [] [] 0
 Fits-start intervals saved now = record {
   lengths = length-map-range_with_len slot_of 0 (length intervals);
@@ -125,5 +127,6 @@ Fits-start intervals saved now = record {
   apart = λ u v r other is_u is_v. absurd (all_slots (length intervals) u r is_u);
 }
 
+-- no choice among no arrivals is ahead
 pub IsBest-start : (intervals : List Interval) (saved now : ℕ) (all : List Arrival) (registers : ℕ) → IsBest intervals saved now all [] registers []
 IsBest-start intervals saved now all registers = record { best = λ chosen feasible place from. omega arith }

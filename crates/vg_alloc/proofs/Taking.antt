@@ -23,16 +23,20 @@ at_take (suc n) [] k x is = absurd (none-some x is)
 at_take (suc n) (y ∷ ys) zero x is = (omega arith, is)
 at_take (suc n) (y ∷ ys) (suc k) x is = let rest = at_take n ys k x is in ((let l = rest.0 in omega arith), rest.1)
 
+-- what stands for an arrival past the end
 abbrev pub none : Arrival
 none = record { first = 0; last = 0; value = 0 }
 
 module _ (work : Work) (number : ℕ) (below : number < length work.arrivals.now) (arranged : IsArranged work) where
+  -- the arrival of the number
   abbrev pub arrival : Arrival
   arrival = get_or work.arrivals.now number none
 
+  -- it stands at its number
   pub arrival-at : slice_get work.arrivals.now number ≡ Some arrival
   arrival-at = slice_get-get_or work.arrivals.now number none below
 
+  -- its interval is that of its value
   pub arrival-facts : (arrival.value < length work.intervals.now) × (interval_at work.intervals.now arrival.value ≡ interval_of arrival) × (arrival.first ≤ arrival.last)
   arrival-facts = arranged.arrivals.intervals_are number arrival arrival-at
 
@@ -44,6 +48,7 @@ module _ (work : Work) (number : ℕ) (below : number < length work.arrivals.now
   pub start-later : start_at work (number - 1) ≤ start_at work number
   start-later = arranged.arrivals.sorted (number - 1) number none (omega arith) below
 
+  -- those that came so far began by now
   pub begun : (k : ℕ) (a : Arrival) → slice_get (take number work.arrivals.now ++ arrival ∷ []) k ≡ Some a → a.first ≤ start_at work number
   begun k a at =
       let found = at_take (number + 1) work.arrivals.now k a (ap (λ (xs : List Arrival). slice_get xs k) seen-more ∙ at) in
@@ -67,6 +72,7 @@ module _ (work : Work) (number : ℕ) (below : number < length work.arrivals.now
           )
     ]
 
+    -- and so it isn't active
     pub absent : IsAmong active arrival.value → ⊥
     absent among =
         let was = (fits.members arrival.value among).1 in
@@ -82,6 +88,7 @@ pub record IsTaken (intervals : List Interval) (saved now : ℕ) (places : List 
   pub once : (j k q : ℕ) → slice_get free_then j ≡ Some q → slice_get free_then k ≡ Some q → j ≡ k
   pub room : length active + 1 + length free_then ≡ used_then
 
+-- a free register, or the next one
 pub IsTaken-from_Takes : (intervals : List Interval) (saved now : ℕ) (seen : List Arrival) (places : List Place) (active free : List ℕ) (used : ℕ) → Fits intervals saved now now seen places active free used → length active < saved
     → (free_then : List ℕ) (used_then r : ℕ) → Takes free used free_then used_then r → IsTaken intervals saved now places active free used free_then used_then r
 IsTaken-from_Takes intervals saved now seen places active free used fits room free_then used_then r takes = elim takes [
@@ -130,12 +137,14 @@ IsTaken-from_Takes intervals saved now seen places active free used fits room fr
 count_written : (places : List Place) (v : ℕ) (p : Place) → v < length places → count_by is_saved (set places v p) + cond {A = ℕ} (is_saved (place_at places v)) 1 0 ≡ count_by is_saved places + cond {A = ℕ} (is_saved p) 1 0
 count_written places v p below = sum_by-set (λ (q : Place). cond {A = ℕ} (is_saved q) 1 0) places v p (Slot 0) below
 
+-- one more with a register
 pub count-kept : (places : List Place) (v r s : ℕ) → v < length places → place_at places v ≡ Slot s → count_by is_saved (set places v (Saved r)) ≡ count_by is_saved places + 1
 count-kept places v r s below is =
     let change = count_written places v (Saved r) below in
     let before : cond {A = ℕ} (is_saved (place_at places v)) 1 0 ≡ 0 = ap (λ (q : Place). cond {A = ℕ} (is_saved q) 1 0) is in
     omega arith
 
+-- one less
 pub count-evicted : (places : List Place) (v r s : ℕ) → v < length places → place_at places v ≡ Saved r → count_by is_saved (set places v (Slot s)) + 1 ≡ count_by is_saved places
 count-evicted places v r s below is =
     let change = count_written places v (Slot s) below in

@@ -100,5 +100,6 @@ module _ (intervals : List Interval) (saved past : ℕ) (arrivals : List Arrival
     | inr register ↦ inl (register.0, (let a = register.1 in let b = fits.few in omega arith), register.2)
   ]
 
+  -- the theorem
   pub IsAllocation-whole : IsAllocation intervals saved places
   IsAllocation-whole = record { lengths = fits.lengths; forms = forms; apart = apart; fewest = fewest; none = none }

@@ -3,6 +3,7 @@ use Rattle.std.specs.Prelude.{◌≡◌, ℕ, ◌-◌, ◌<◌, ◌≤◌, List,
 use Rattle.vg_list.specs.NodeLists.{nodes_of}
 use Rattle.vg_alloc.specs.declared.active.Active.{Active}
 
+-- the values in the list, in order
 abbrev pub members : Active → List ℕ
 members a = nodes_of a.lists 0
 
