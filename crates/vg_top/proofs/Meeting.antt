@@ -87,9 +87,9 @@ module _ (words : List (List ℕ)) (c : Change) (answer : code.Answer) (result :
 
   answered : (told : Option Held)
       → IfSome told (λ held. (asked : List (List ℕ)) × (c.files_after.asked ≡ c.files.asked ++ asked) × answers_in (asked_by words) held (answer_with asked answer))
-      → IsWritten → IsAnswered words (record c { files = record c.files { held = told } }) result
-  answered None told writes = tt
-  answered (Some held) told writes = inl (answer_with told.0 answer, told.2, told.1, writes)
+      → (answer.status ≡ status.ReadFault → result ≡ status.ReadFault) → IsWritten → IsAnswered words (record c { files = record c.files { held = told } }) result
+  answered None told unread writes = tt
+  answered (Some held) told unread writes = inl (answer_with told.0 answer, told.2, told.1, unread, writes)
 
   whole : ¬ HasPutFailed c → result ≢ status.OutOfMemory → StopsPutting result c.output.faults c.output.nones c.output_after.faults c.output_after.nones → IsWritten
       → (answer.status ≡ result) × (c.output_after.written ≡ append_known c.output.written answer.text.items)
@@ -134,7 +134,7 @@ module _ (words : List (List ℕ)) (c : Change) (answer : code.Answer) (result :
       → StopsPutting result c.output.faults c.output.nones c.output_after.faults c.output_after.nones → c.output.faults ≤ c.output_after.faults → c.output.nones ≤ c.output_after.nones
       → Meets words c result
   meets_written told asked final is_usage formless at_once kept same writes read unread puts faults nones = record {
-    answered = answered c.files.held told writes;
+    answered = answered c.files.held told unread writes;
     complete = complete c.files.held told puts writes;
     asked = asks (names_in (asked_by words)) final writes asked;
     no_form = no_form formless writes;

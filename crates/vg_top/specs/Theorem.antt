@@ -25,13 +25,13 @@ Writes wanted text result before after =
     ((result ≡ wanted) × (after.written ≡ append_known before.written text))
     ⊎ (IsCut result × ((n : ℕ) × (after.written ≡ append_known before.written (take n text))))
 
--- An answer to the words is written, with the files that were asked for; or no memory was left to make one, and
--- nothing is written.
+-- An answer to the words is written, with the files that were asked for; where it is that a load failed, the status is
+-- its own. Or no memory was left to make one, and nothing is written.
 abbrev pub IsAnswered : List (List ℕ) → Change → Status → Type 0
 IsAnswered words c result =
     IfSome c.files.held (λ held.
     ((answer : Answer) × IsAnswer held words answer × (c.files_after.asked ≡ c.files.asked ++ answer.asked)
-    × Writes answer.status answer.text result c.output c.output_after)
+    × (answer.status ≡ status.ReadFault → result ≡ status.ReadFault) × Writes answer.status answer.text result c.output c.output_after)
     ⊎ ((result ≡ status.OutOfMemory) × (c.output_after.written ≡ c.output.written)))
 
 -- a put has failed, or taken nothing
