@@ -144,6 +144,7 @@ impl Table {
                 let cut = body.strip_suffix("\n").unwrap_or(body);
                 return self.answer(rt, alloc, rest, cut);
             }
+            "" => {}
             _ => return println!(rt; "no word of a table: {line}"),
         }
         Ok(())
@@ -153,7 +154,7 @@ impl Table {
 /// Runs each case of a table.
 pub fn run_table(rt: &impl Print, alloc: Global, text: &str) -> io::Result<Counts> {
     let mut table = Table::new(alloc)?;
-    let mut line = "";
+    let mut line = String::new(alloc);
     let mut body = String::new(alloc);
     for next in text.split_terminator('\n') {
         match next.strip_prefix("@@ ") {
@@ -162,16 +163,12 @@ pub fn run_table(rt: &impl Print, alloc: Global, text: &str) -> io::Result<Count
                 body.push_str("\n")?;
             }
             Some(begun) => {
-                if !line.is_empty() {
-                    table.read(rt, alloc, line, body.as_str())?;
-                }
-                line = begun;
+                table.read(rt, alloc, line.as_str(), body.as_str())?;
+                line = String::from_str(alloc, begun)?;
                 body = String::new(alloc);
             }
         }
     }
-    if !line.is_empty() {
-        table.read(rt, alloc, line, body.as_str())?;
-    }
+    table.read(rt, alloc, line.as_str(), body.as_str())?;
     Ok(table.counts)
 }
