@@ -10,10 +10,10 @@ use Rattle.vg_names.specs.Duplicate.{duplicates}
 use Rattle.vg_names.specs.First.{first_of}
 use Rattle.vg_names.specs.Unknown.{in_each}
 use Rattle.vg_names.proofs.Texts.{same_text}
-use Rattle.vg_order.specs.Uses.{uses_of}
-use Rattle.vg_order.specs.Cyclic.{replaced_name, has_name, is_replaced, Uses, Reaches, directly, through, IsCyclic, NoneIsCyclic, IsFirstCyclic, replaced_names, IsOrder}
-use Rattle.vg_order.proofs.Ordered.{replaced_among}
-use Rattle.vg_const.specs.Cycle.{names_used, uses_directly, uses_through, name_cycle, item_cycle, cycles}
+use Rattle.vg_names.specs.Uses.{uses_of}
+use Rattle.vg_names.specs.Cyclic.{replaced_name, has_name, is_replaced, Uses, Reaches, directly, through, IsCyclic, NoneIsCyclic, IsFirstCyclic, replaced_names, IsOrder}
+use Rattle.vg_names.proofs.Ordered.{replaced_among}
+use Rattle.vg_names.specs.Cycle.{names_used, uses_directly, uses_through, name_cycle, item_cycle, cycles}
 use Rattle.vg_const.proofs.Cycles.{none_reaches_itself}
 
 or_cases : (P : Type 0) (x y : Bool) → (x ≡ true → P) → (y ≡ true → P) → (x || y) ≡ true → P

@@ -7,10 +7,10 @@ use Rattle.vg_ast.specs.declared.desc.Desc.{Desc}
 use Rattle.vg_names.specs.Definition.{Text, item_named, is_among}
 use Rattle.vg_names.specs.Duplicate.{duplicates}
 use Rattle.vg_names.proofs.Texts.{among_cases}
-use Rattle.vg_order.specs.Uses.{uses_of}
-use Rattle.vg_order.specs.Cyclic.{is_replaced, Uses, Reaches, directly, through, text_of, names_of, may_follow, is_order_behind, IsOrder}
-use Rattle.vg_order.proofs.Lookups.{user_replaced}
-use Rattle.vg_order.proofs.Ordered.{own_item, replaced_ordered, used_before}
+use Rattle.vg_names.specs.Uses.{uses_of}
+use Rattle.vg_names.specs.Cyclic.{is_replaced, Uses, Reaches, directly, through, text_of, names_of, may_follow, is_order_behind, IsOrder}
+use Rattle.vg_names.proofs.Lookups.{user_replaced}
+use Rattle.vg_names.proofs.Ordered.{own_item, replaced_ordered, used_before}
 
 -- how many stand in an order from a name on
 abbrev standing_from : List Item → List ℕ → Text → ℕ

@@ -1,2 +1,1 @@
-pub mod Cycle
 pub mod Rules

@@ -16,7 +16,7 @@ use Rattle.vg_const.specs.declared.rule.Rule.{Rule}
 use Rattle.vg_const.specs.declared.rule.Rule.TheVariants as rules
 use Rattle.vg_const.specs.declared.fault.DescFault.TheVariants as faults
 use Rattle.vg_const.specs.declared.plain.Plain.{Plain}
-use Rattle.vg_const.specs.Cycle.{cycles}
+use Rattle.vg_names.specs.Cycle.{cycles}
 
 -- the places at which a description breaks a rule, in the order of the text
 abbrev pub places_of : Rule → Desc → List ℕ

@@ -2,7 +2,7 @@ ghost use Rattle.std.specs.Prelude.{◌≡◌, ◌⊎◌, [], None, Some, IfOk, 
 ghost use Rattle.vg_names.specs.Duplicate.{duplicates};
 ghost use Rattle.vg_names.specs.First.{first_of};
 ghost use Rattle.vg_names.specs.Unknown.{unknowns};
-ghost use Rattle.vg_order.specs.Cyclic.{IsOrder};
+ghost use Rattle.vg_names.specs.Cyclic.{IsOrder};
 ghost use Rattle.vg_whole.specs.Overflow.{overflows};
 ghost use Rattle.vg_whole.specs.Worths.{constants_of, constants_by, AreWorths};
 ghost use Rattle.vg_inline.specs.Types.{aliases_of};
@@ -11,7 +11,7 @@ ghost use Rattle.vg_inline.specs.Kept.{keeping};
 ghost use Rattle.vg_inline.specs.Context.{aliases_by, bodies_by};
 ghost use Rattle.vg_inline.specs.InPlace.{excesses};
 ghost use Rattle.vg_const.specs.declared.fault.DescFault.{DescFault as TheFault};
-ghost use Rattle.vg_const.specs.Cycle.{cycles};
+ghost use Rattle.vg_names.specs.Cycle.{cycles};
 ghost use Rattle.vg_const.specs.Rules.{IsAccepted, IsFolded, Breaks};
 
 use crate::fault::DescFault;
@@ -20,8 +20,8 @@ use sqlite_items::Items;
 use std::alloc::{AllocError, Global};
 use vg_ast::{Desc, Item};
 use vg_inline::{Context, Declared, Kept, first_excess, work_out_aliases, work_out_bodies};
-use vg_names::{Table, first_duplicate, first_unknown};
-use vg_order::{Order, order_of};
+use vg_names::{Order, Table, order_of};
+use vg_resolve::{first_duplicate, first_unknown};
 use vg_whole::{Worth, first_overflow, worths};
 
 /// An order of what is put in place of its name, or the place of the name of the first that uses itself.

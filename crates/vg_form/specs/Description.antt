@@ -32,7 +32,7 @@ use Rattle.vg_form.specs.declared.form.Behaviour.{Behaviour}
 use Rattle.vg_form.specs.declared.shape.Shape.{Shape}
 use Rattle.vg_form.specs.declared.shape.Shape.TheVariants as shape
 use Rattle.vg_form.specs.declared.shape.Operand.TheVariants.{Rd}
-use Rattle.vg_order.specs.Numbers.{number_named}
+use Rattle.vg_names.specs.Numbers.{number_named}
 use Rattle.vg_whole.specs.declared.worth.Worth.{Worth}
 use Rattle.vg_whole.specs.declared.worth.Worth.TheVariants.{Whole}
 use Rattle.vg_whole.specs.Whole.{whole_of}

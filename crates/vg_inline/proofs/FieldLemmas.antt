@@ -4,8 +4,8 @@ use Rattle.std.specs.Prelude.{slice_get}
 use Rattle.vg_ast.specs.declared.item.Item.{Item}
 use Rattle.vg_names.specs.Definition.{Text, item_named, fields_of_format}
 use Rattle.vg_names.proofs.InnerLemmas.{unnumbered_item}
-use Rattle.vg_order.specs.Numbers.{number_named}
-use Rattle.vg_order.proofs.Lookups.{item_of_number}
+use Rattle.vg_names.specs.Numbers.{number_named}
+use Rattle.vg_names.proofs.Lookups.{item_of_number}
 use Rattle.vg_whole.specs.Whole.{Inner}
 use Rattle.vg_inline.specs.Context.{Kepts}
 use Rattle.vg_inline.specs.Inline.{field_values}

@@ -15,8 +15,8 @@ use Rattle.vg_ast.specs.declared.item.Item.{Item}
 use Rattle.vg_ast.specs.declared.item.Item.TheVariants as items
 use Rattle.vg_ast.specs.Start.{start_of}
 use Rattle.vg_names.specs.Definition.{Text, item_named}
-use Rattle.vg_order.specs.Numbers.{number_named}
-use Rattle.vg_order.specs.Worked.{worked, worked_within}
+use Rattle.vg_names.specs.Numbers.{number_named}
+use Rattle.vg_names.specs.Worked.{worked, worked_within}
 use Rattle.vg_whole.specs.declared.worth.Worth.{Worth}
 use Rattle.vg_whole.specs.declared.worth.Worth.TheVariants.{Whole, NoValue, Typed}
 use Rattle.vg_whole.specs.Whole.{Inner, inner_of, binary_whole, Constants}

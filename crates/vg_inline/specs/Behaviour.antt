@@ -10,7 +10,7 @@ use Rattle.vg_ast.specs.declared.item.Item.{Item}
 use Rattle.vg_ast.specs.declared.item.Item.TheVariants as items
 use Rattle.vg_ast.specs.Start.{start_of}
 use Rattle.vg_names.specs.Definition.{Text, item_named, fields_of_format}
-use Rattle.vg_order.specs.Numbers.{number_named}
+use Rattle.vg_names.specs.Numbers.{number_named}
 use Rattle.vg_whole.specs.Whole.{Inner}
 use Rattle.vg_inline.specs.declared.tree.Tree.{Tree}
 use Rattle.vg_inline.specs.declared.value.Value.{Value}

@@ -7,7 +7,7 @@ use Rattle.vg_ast.specs.declared.parameter.Parameter.{Parameter}
 use Rattle.vg_ast.specs.declared.statement.Statement.{Statement}
 use Rattle.vg_ast.specs.declared.type_expr.TypeExpr.{TypeExpr}
 use Rattle.vg_names.specs.Definition.{Text, fields_of_format}
-use Rattle.vg_order.specs.Worked.{value_by}
+use Rattle.vg_names.specs.Worked.{value_by}
 use Rattle.vg_whole.specs.declared.worth.Worth.{Worth}
 use Rattle.vg_whole.specs.Whole.{Inner, Constants}
 use Rattle.vg_whole.specs.Worths.{constants_by}

@@ -9,8 +9,8 @@ use Rattle.vg_ast.specs.declared.item.Item.TheVariants as items
 use Rattle.vg_ast.specs.declared.parameter.Parameter.{Parameter}
 use Rattle.vg_ast.specs.Start.{start_step}
 use Rattle.vg_names.specs.Definition.{Text, item_named}
-use Rattle.vg_order.specs.Numbers.{number_named}
-use Rattle.vg_order.specs.Worked.{worked}
+use Rattle.vg_names.specs.Numbers.{number_named}
+use Rattle.vg_names.specs.Worked.{worked}
 use Rattle.vg_whole.specs.declared.worth.Worth.{Worth}
 use Rattle.vg_whole.specs.declared.worth.Worth.TheVariants.{Whole, NoValue, Typed}
 use Rattle.vg_whole.specs.Whole.{Inner, inner_of, binary_whole, Constants}

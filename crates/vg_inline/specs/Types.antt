@@ -6,7 +6,7 @@ use Rattle.vg_ast.specs.declared.item.Item.{Item}
 use Rattle.vg_ast.specs.declared.item.Item.TheVariants as items
 use Rattle.std.specs.Prelude.{List, [], Option, Some}
 use Rattle.vg_names.specs.Definition.{Text}
-use Rattle.vg_order.specs.Worked.{worked}
+use Rattle.vg_names.specs.Worked.{worked}
 use Rattle.vg_whole.specs.declared.worth.Worth.{Worth}
 use Rattle.vg_whole.specs.Whole.{Constants, whole_of}
 use Rattle.vg_inline.specs.declared.declared.Declared.{Declared}

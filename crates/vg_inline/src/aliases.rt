@@ -1,6 +1,6 @@
 ghost use Rattle.std.specs.Prelude.{◌≡◌, [], Some, IfOk};
 ghost use Rattle.vg_names.specs.Duplicate.{duplicates};
-ghost use Rattle.vg_order.specs.Cyclic.{IsOrder};
+ghost use Rattle.vg_names.specs.Cyclic.{IsOrder};
 ghost use Rattle.vg_whole.specs.Worths.{constants_by};
 ghost use Rattle.vg_inline.specs.Context.{aliases_by};
 ghost use Rattle.vg_inline.specs.Types.{alias_step, aliases_of};

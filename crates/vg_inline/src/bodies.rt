@@ -1,7 +1,7 @@
 //! The bodies of functions with everything but their parameters in place, worked out one behind the other.
 ghost use Rattle.std.specs.Prelude.{◌≡◌, [], Some, IfOk, length, replicate};
 ghost use Rattle.vg_names.specs.Duplicate.{duplicates};
-ghost use Rattle.vg_order.specs.Cyclic.{IsOrder};
+ghost use Rattle.vg_names.specs.Cyclic.{IsOrder};
 ghost use Rattle.vg_whole.specs.Worths.{constants_by};
 ghost use Rattle.vg_inline.specs.Context.{aliases_by, bodies_by};
 ghost use Rattle.vg_inline.specs.Inline.{bodies_of, body_step};

@@ -1,6 +1,6 @@
 ghost use Rattle.std.specs.Prelude.{◌≡◌};
-ghost use Rattle.vg_order.specs.Numbers.{number_named};
-ghost use Rattle.vg_order.specs.Worked.{value_at};
+ghost use Rattle.vg_names.specs.Numbers.{number_named};
+ghost use Rattle.vg_names.specs.Worked.{value_at};
 ghost use Rattle.vg_inline.specs.declared.declared.Declared.TheVariants.{Bool as BoolType};
 ghost use Rattle.vg_inline.specs.Context.{aliases_in, constants_in, items_of};
 ghost use Rattle.vg_inline.specs.Inline.{number_or};

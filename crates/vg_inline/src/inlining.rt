@@ -3,8 +3,8 @@ ghost use Rattle.std.specs.Prelude.{◌≡◌, ◌∷◌, [], map, slice_get, If
 ghost use Rattle.std.specs.Option.{option_copied};
 ghost use Rattle.vg_ast.specs.Start.{start_of as start_of_expression};
 ghost use Rattle.vg_names.specs.Definition.{item_named};
-ghost use Rattle.vg_order.specs.Numbers.{number_named};
-ghost use Rattle.vg_order.specs.Worked.{value_at};
+ghost use Rattle.vg_names.specs.Numbers.{number_named};
+ghost use Rattle.vg_names.specs.Worked.{value_at};
 ghost use Rattle.vg_whole.specs.Whole.{binary_whole, inner_of};
 ghost use Rattle.vg_inline.specs.declared.head.Head.TheVariants.{Binary};
 ghost use Rattle.vg_inline.specs.Types.{type_of, type_worths};

@@ -1,4 +1,3 @@
-pub mod Asked
 pub mod Definition
 pub mod Duplicate
 pub mod Inner
@@ -6,3 +5,13 @@ pub mod Met
 pub mod Table
 pub mod Unknown
 pub mod First
+pub mod Uses
+pub mod Cyclic
+pub mod Answer
+pub mod Graph
+pub mod Sorted
+pub mod Search
+pub mod Numbers
+pub mod Scoped
+pub mod Worked
+pub mod Cycle

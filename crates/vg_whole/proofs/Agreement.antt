@@ -7,7 +7,7 @@ use Rattle.vg_ast.specs.declared.expr.Expr.{Expr, fold-roll-Expr, roll-Expr, ind
 use Rattle.vg_ast.specs.declared.expr.Expr.TheOpen.{Expr-F}
 use Rattle.vg_names.specs.Definition.{Text, is_among}
 use Rattle.vg_names.proofs.Texts.{among_first, among_left, among_right}
-use Rattle.vg_order.specs.Uses.{Names, outer, all_of, names_step, expression_names}
+use Rattle.vg_names.specs.Uses.{Names, outer, all_of, names_step, expression_names}
 use Rattle.vg_whole.specs.declared.worth.Worth.{Worth}
 use Rattle.vg_whole.specs.Whole.{Inner, inner_of, or_else, binary_whole, operator_places, has_type, Constants, Judges, Judged, places_of_all, judged_step, judged}
 

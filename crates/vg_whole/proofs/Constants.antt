@@ -4,10 +4,10 @@ use Rattle.vg_ast.specs.declared.item.Item.{Item}
 use Rattle.vg_ast.specs.declared.item.Item.TheVariants as items
 use Rattle.vg_ast.specs.declared.desc.Desc.{Desc}
 use Rattle.vg_names.specs.Duplicate.{duplicates}
-use Rattle.vg_order.specs.Uses.{uses_of}
-use Rattle.vg_order.specs.Cyclic.{is_replaced, IsOrder}
-use Rattle.vg_order.specs.Worked.{IsStep, worked}
-use Rattle.vg_order.proofs.Working.{is_worked, only_one}
+use Rattle.vg_names.specs.Uses.{uses_of}
+use Rattle.vg_names.specs.Cyclic.{is_replaced, IsOrder}
+use Rattle.vg_names.specs.Worked.{IsStep, worked}
+use Rattle.vg_names.proofs.Working.{is_worked, only_one}
 use Rattle.vg_whole.specs.declared.worth.Worth.{Worth}
 use Rattle.vg_whole.specs.declared.worth.Worth.TheVariants as worths
 use Rattle.vg_whole.specs.Whole.{Constants, Judged, constant_whole, constant_worth}

@@ -4,8 +4,8 @@ use Rattle.vg_ast.specs.declared.item.Item.{Item}
 use Rattle.vg_ast.specs.declared.desc.Desc.{Desc}
 use Rattle.vg_names.specs.Definition.{Text}
 use Rattle.vg_names.specs.Duplicate.{duplicates}
-use Rattle.vg_order.specs.Cyclic.{IsOrder}
-use Rattle.vg_order.specs.Worked.{worked, value_at, value_by, IsWorked}
+use Rattle.vg_names.specs.Cyclic.{IsOrder}
+use Rattle.vg_names.specs.Worked.{worked, value_at, value_by, IsWorked}
 use Rattle.vg_whole.specs.declared.worth.Worth.{Worth}
 use Rattle.vg_whole.specs.declared.worth.Worth.TheVariants as worths
 use Rattle.vg_whole.specs.Whole.{Constants, constant_whole}

@@ -1,6 +1,6 @@
 ghost use Rattle.std.specs.Prelude.{◌≡◌, [], Some, IfOk};
 ghost use Rattle.vg_names.specs.Duplicate.{duplicates};
-ghost use Rattle.vg_order.specs.Cyclic.{IsOrder};
+ghost use Rattle.vg_names.specs.Cyclic.{IsOrder};
 ghost use Rattle.vg_whole.specs.Whole.{constant_whole, constant_worth as constant_worth_of};
 ghost use Rattle.vg_whole.specs.Worths.{constants_by, AreWorths, ConstantsAreWorked};
 

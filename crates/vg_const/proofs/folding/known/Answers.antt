@@ -6,7 +6,7 @@ use Rattle.vg_names.specs.Unknown.{unknowns}
 use Rattle.vg_whole.specs.Overflow.{overflows}
 use Rattle.vg_whole.specs.Worths.{constants_of}
 use Rattle.vg_inline.specs.InPlace.{excesses}
-use Rattle.vg_const.specs.Cycle.{cycles}
+use Rattle.vg_names.specs.Cycle.{cycles}
 use Rattle.vg_const.proofs.Broken.{nothing_first, duplicate, unknown, cyclic, overflow, limit, accepted}
 use Rattle.vg_const.proofs.folding.known.Goals as goal
 

@@ -1,5 +1,5 @@
 use Rattle.std.proofs.Common.{rules}
-use Rattle.vg_order.specs.Cyclic.{IsOrder, IsFirstCyclic}
+use Rattle.vg_names.specs.Cyclic.{IsOrder, IsFirstCyclic}
 use Rattle.vg_const.proofs.Circles.{acyclic, first_cycle}
 use Rattle.vg_const.proofs.folding.order.Goals as goal
 

@@ -1,7 +1,7 @@
 use Rattle.std.proofs.Common.{◌≡◌, List, length, get_or, replicate, Some, sym, ap, subst, ◌∙◌, arith}
 use Rattle.std.proofs.lemmas.List.{length-set, length-replicate}
 use Rattle.vg_ast.specs.declared.item.Item.{Item}
-use Rattle.vg_order.proofs.Working.{Worked, worked_start, worked_step, worked_end, order_within}
+use Rattle.vg_names.proofs.Working.{Worked, worked_start, worked_step, worked_end, order_within}
 use Rattle.vg_whole.specs.Worths.{constants_by}
 use Rattle.vg_inline.specs.declared.declared.Declared.{Declared}
 use Rattle.vg_inline.specs.declared.declared.Declared.TheVariants as type

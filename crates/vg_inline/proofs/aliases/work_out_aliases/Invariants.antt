@@ -1,6 +1,6 @@
 use Rattle.std.proofs.Common.{◌≡◌, ℕ, ◌<◌, length, drop}
 use Rattle.std.specs.List.{All}
-use Rattle.vg_order.proofs.Working.{Worked}
+use Rattle.vg_names.proofs.Working.{Worked}
 use Rattle.vg_whole.specs.Worths.{constants_by}
 use Rattle.vg_inline.specs.declared.declared.Declared.{Declared}
 use Rattle.vg_inline.specs.declared.declared.Declared.TheVariants as type

@@ -1,7 +1,7 @@
 use Rattle.std.proofs.Common.{◌≡◌, ℕ, ◌<◌, length, drop}
 use Rattle.std.specs.List.{All}
 use Rattle.std.specs.Prelude.{Option}
-use Rattle.vg_order.proofs.Working.{Worked}
+use Rattle.vg_names.proofs.Working.{Worked}
 use Rattle.vg_whole.specs.Worths.{constants_by}
 use Rattle.vg_inline.specs.declared.kept.Kept.{Kept}
 use Rattle.vg_inline.specs.Context.{aliases_by}

@@ -1,7 +1,7 @@
 use Rattle.std.proofs.Common.{◌≡◌, List, length, get_or, replicate, Some, sym, ap, subst, ◌∙◌, arith}
 use Rattle.std.proofs.lemmas.List.{length-set, length-replicate}
 use Rattle.vg_ast.specs.declared.item.Item.{Item}
-use Rattle.vg_order.proofs.Working.{Worked, worked_start, worked_step, worked_end, order_within, plain_list}
+use Rattle.vg_names.proofs.Working.{Worked, worked_start, worked_step, worked_end, order_within, plain_list}
 use Rattle.vg_whole.specs.declared.worth.Worth.{Worth}
 use Rattle.vg_whole.specs.declared.worth.Worth.TheVariants as worths
 use Rattle.vg_whole.specs.Whole.{constant_whole}

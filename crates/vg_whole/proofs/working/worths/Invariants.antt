@@ -1,6 +1,6 @@
 use Rattle.std.proofs.Common.{◌≡◌, ℕ, ◌<◌, length, drop}
 use Rattle.std.specs.List.{All}
-use Rattle.vg_order.proofs.Working.{Worked}
+use Rattle.vg_names.proofs.Working.{Worked}
 use Rattle.vg_whole.specs.declared.worth.Worth.{Worth}
 use Rattle.vg_whole.specs.declared.worth.Worth.TheVariants as worths
 use Rattle.vg_whole.specs.Whole.{constant_whole}

@@ -1,7 +1,0 @@
-use Rattle.std.proofs.Common.{◌≡◌, drop}
-use Rattle.vg_names.specs.First.{first_of}
-use Rattle.vg_names.specs.Unknown.{in_each, line_unknowns}
-use Rattle.vg_names.proofs.unknown_part.lines.Given as goal
-
-abbrev pub invariant-loop-one : goal.invariant-loop-one
-invariant-loop-one l = first_of (in_each (line_unknowns l.table.items.now) l.lines) ≡ first_of (in_each (line_unknowns l.table.items.now) (drop l.one-index l.lines))

@@ -1,6 +1,0 @@
-use Rattle.std.proofs.Common.{take}
-use Rattle.vg_order.specs.Scoped.{HasNames}
-use Rattle.vg_order.proofs.uses.names_of_parameters.Given as goal
-
-abbrev pub invariant-loop-parameter : goal.invariant-loop-parameter
-invariant-loop-parameter l = HasNames l.names (take l.parameter-index l.parameters)
