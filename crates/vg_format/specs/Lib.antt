@@ -1,1 +1,5 @@
 pub mod Matching
+pub mod Setting
+pub mod Encoding
+pub mod Pattern
+pub mod Replaced

@@ -1,236 +1,270 @@
--- The two laws of images: what is read is spelled so, and what is spelled so is read.
-use Rattle.std.proofs.Common.{◌≡◌, ℕ, ◌+◌, ◌*◌, ◌/◌, ◌%◌, ◌^◌, ◌<◌, ◌≤◌, List, [], ◌∷◌, ◌++◌, All, length, Some, None, refl, ap, sym, ◌∙◌, subst, append_assoc, arith}
-use Rattle.std.specs.Prelude.{codes, flat_map, IsTrue}
-use Rattle.std.specs.List.{AllByRecursion, range_with_len}
+-- The two laws of images: what is read is spelled so, and any other text is refused at its line.
+use Rattle.std.proofs.Common.{◌≡◌, ℕ, zero, suc, ◌+◌, ◌*◌, ◌%◌, ◌^◌, ◌<◌, ◌≤◌, ◌⊎◌, Bool, true, false, IsTrue, eqb, nat_eq, List, [], ◌∷◌, ◌++◌, length, take, drop, Option, Some, None, refl, ap, sym, ◌∙◌, subst, inl, inr, append_assoc, arith, length-append}
+use Rattle.std.specs.Prelude.{codes, flat_map}
+use Rattle.std.proofs.lemmas.Bool.Decides.{nat_tests}
+use Rattle.std.proofs.lemmas.Nat.{pow_pos}
 use Rattle.std.proofs.lemmas.Option.{none-some, same_Some}
-use Rattle.std.proofs.lemmas.List.Elements.{All-from_recursion, recursion_from_All}
-use Rattle.vg_text.specs.Number.{hexadecimal}
-use Rattle.vg_text.specs.Piece.{rest_after}
+use Rattle.std.proofs.lemmas.List.{append-nil, append_cancel_left, take-append-drop, take-append-le, take_at, nil_from_length}
 use Rattle.vg_isa.specs.declared.isa.Parts.{Parts}
 use Rattle.vg_isa.specs.Accepted.{is_isa}
 use Rattle.vg_isa.specs.Declaration.{word_bytes}
 use Rattle.vg_image.specs.declared.image.Image.{Image}
-use Rattle.vg_image.specs.declared.image.Symbol.{Symbol}
-use Rattle.vg_image.specs.declared.image_fault.ImageFault.{ImageFault}
-use Rattle.vg_image.specs.declared.image_fault.ImageFault.TheVariants as faults
-use Rattle.vg_image.specs.Spelling.{IsImage, IsSymbol, spelling, code_line, bytes_line, symbol_line, address_line}
-use Rattle.vg_image.specs.Reading.{IsSpelled, IsNoImage, IsRefusalOf, Refuses}
-use Rattle.vg_image.specs.Reader.{fixed_line_at, base_line_at, address_line_at, code_lines_at, room_of, ended, image_at}
+use Rattle.vg_image.specs.declared.progress.Progress.{Progress}
+use Rattle.vg_image.specs.declared.stage.Stage.{Stage}
+use Rattle.vg_image.specs.declared.stage.Stage.TheVariants as stages
+use Rattle.vg_image.specs.Lines.{ended_line, ends_with_feed, lines_of}
+use Rattle.vg_image.specs.declared.refusal.Refusal.{Refusal}
+use Rattle.vg_image.specs.declared.refusal.Refusal.TheVariants as refusals
+use Rattle.vg_image.specs.Reader.{◌>>=◌, Fails, is_ended, line_read, line_split, lines_read, nothing_read}
+use Rattle.vg_image.specs.Reading.{IsBeginning, IsFaultLine, IsNoImage, IsSpelled}
+use Rattle.vg_image.specs.Spelling.{IsImage, image_lines, spelling}
 use Rattle.vg_image.proofs.Bind.{bind_elim}
-use Rattle.vg_image.proofs.Lines.{address_spelled, fixed_line_at-spelled, spelled-fixed_line_at, address_line_at-spelled, spelled-address_line_at, base_line_at-spelled, spelled-base_line_at}
-use Rattle.vg_image.proofs.CodeLines.{line, are_lines, code_lines_at-spelled}
-use Rattle.vg_image.proofs.Widths.{AreWidths, are_widths, address_space, word_space, ends_from_room, room_from_ends}
+use Rattle.vg_image.proofs.Lines.{is_split, joined-lines_of, joined_ends, lines_of-ended, lines_of-none}
+use Rattle.vg_image.proofs.Reached.{GoesOn, IsHead, IsRead, IsReadAt, goes_on, name_lines, tail_lines}
+use Rattle.vg_image.proofs.Spelled.{image_read, lines_read-append, none_read, read_then, spelling_lines, stuck}
+use Rattle.vg_image.proofs.Steps.{at, line_adds}
+use Rattle.vg_image.proofs.MachineWidths.{AreWidths, IsMachineWidth, are_widths}
 
--- ---- the spelling from left to right
+-- ---- lines that are read begin a spelling
 
-abbrev digits_of : Parts → ℕ
-digits_of d = d.pc.width / 4
+lines_add : (d : Parts) (more lines : List (List ℕ)) (p q : Progress) → AreWidths d → IsRead d p lines → lines_read d p more ≡ Some q → IsRead d q (lines ++ more)
+unfolding lines_read
+lines_add d [] lines p q widths h found = subst (λ (r : Progress). IsRead d r (lines ++ [])) (same_Some p q found) (subst (λ ls. IsRead d p ls) (sym (append-nil lines)) h)
+lines_add d (line ∷ more) lines p q widths h found =
+    bind_elim (line_read d p line) (λ next. lines_read d next more) q (IsRead d q (lines ++ line ∷ more)) found
+    (λ next first others.
+    subst (λ ls. IsRead d q ls) (append_assoc lines (line ∷ []) more)
+    (lines_add d more (lines ++ line ∷ []) next q widths (line_adds d p.stage p.left p.image line next lines widths h first) others))
 
-abbrev end_spelled : List ℕ
-end_spelled = codes "end" ++ ([] ++ 10 ∷ [])
+none_left : (bytes : ℕ) → 0 % bytes ≡ 0
+none_left zero = refl
+none_left (suc n) = omega arith
 
--- the line of an address with what follows it
-abbrev address_then : Parts → List ℕ → ℕ → List ℕ → List ℕ
-address_then d word at rest = address_spelled word (digits_of d) at (10 ∷ rest)
+begun : (d : Parts) → IsRead d (nothing_read d) []
+begun d =
+    let some : 0 < 2 ^ d.pc.width = pow_pos d.pc.width in
+    (record { aligned = none_left (word_bytes d); base = some; entry = some; stop = some; full = some; data_base = some; no_code = refl; no_bytes = refl; no_symbols = refl }, refl, refl)
 
-abbrev data_spelled : Parts → Image → List ℕ
-data_spelled d i = address_then d (codes "data ") i.data_base end_spelled
+read_goes_on : (d : Parts) (done : List (List ℕ)) (p : Progress) → AreWidths d → lines_read d (nothing_read d) done ≡ Some p → GoesOn d p.image done
+read_goes_on d done p widths ran = goes_on d p.stage p.left p.image done (lines_add d done [] (nothing_read d) p widths (begun d) ran)
 
-abbrev code_spelled : Parts → Image → List ℕ
-code_spelled d i = flat_map (line (2 * word_bytes d)) i.code ++ data_spelled d i
+-- so do fewer of them
+fewer : (k : ℕ) (lines more : List (List ℕ)) → lines ++ more ≡ take k lines ++ (drop k lines ++ more)
+fewer k lines more = ap (λ ls. ls ++ more) (sym (take-append-drop k lines)) ∙ append_assoc (take k lines) (drop k lines) more
 
-abbrev full_spelled : Parts → Image → List ℕ
-full_spelled d i = address_then d (codes "full ") i.full (code_spelled d i)
+begins : (d : Parts) (done : List (List ℕ)) (p : Progress) (k : ℕ) → AreWidths d → lines_read d (nothing_read d) done ≡ Some p → IsBeginning d (take k done)
+begins d done p k widths ran =
+    let on = read_goes_on d done p widths ran in
+    (p.image, on.image, (drop k done ++ on.more, spelling_lines d p.image on.image ∙ on.lines_are ∙ fewer k done on.more))
 
-abbrev stop_spelled : Parts → Image → List ℕ
-stop_spelled d i = address_then d (codes "stop ") i.stop (full_spelled d i)
+-- ---- lines that aren't read begin none
 
-abbrev entry_spelled : Parts → Image → List ℕ
-entry_spelled d i = address_then d (codes "entry ") i.entry (stop_spelled d i)
+spelling_read : (d : Parts) (i : Image) → AreWidths d → IsImage d i → (left : List ℕ) × (lines_read d (nothing_read d) (lines_of (spelling d i)) ≡ Some (at stages.End left i))
+spelling_read d i widths is =
+    let read = image_read d i widths is in
+    (read.0, ap (lines_read d (nothing_read d)) (spelling_lines d i is) ∙ read.1)
 
-abbrev base_spelled : Parts → Image → List ℕ
-base_spelled d i = address_then d (codes "base ") i.base (entry_spelled d i)
+stops : (d : Parts) (done more : List (List ℕ)) (line : List ℕ) (p : Progress) → lines_read d (nothing_read d) done ≡ Some p → line_read d p line ≡ None → lines_read d (nothing_read d) (done ++ line ∷ more) ≡ None
+stops d done more line p ran wrong =
+    lines_read-append d (nothing_read d) done (line ∷ more)
+    ∙ ap (λ o. o >>= (λ q. lines_read d q (line ∷ more))) ran
+    ∙ stuck d p line more wrong
 
-abbrev image_spelled : Parts → Image → List ℕ
-image_spelled d i = codes "image " ++ (d.name ++ 10 ∷ base_spelled d i)
+begins_none : (d : Parts) (done : List (List ℕ)) (line : List ℕ) (p : Progress) → AreWidths d → lines_read d (nothing_read d) done ≡ Some p → line_read d p line ≡ None → IsBeginning d (done ++ line ∷ []) → ⊥
+begins_none d done line p widths ran wrong (i, is, (more, begin)) =
+    let read = spelling_read d i widths is in
+    let none : lines_read d (nothing_read d) (lines_of (spelling d i)) ≡ None =
+    ap (lines_read d (nothing_read d)) (begin ∙ append_assoc done (line ∷ []) more) ∙ stops d done more line p ran wrong in
+    none-some (at stages.End read.0 i) (sym none ∙ read.1)
 
-regroup_line : (word zero_x number feed rest : List ℕ) → (word ++ (zero_x ++ number) ++ feed) ++ rest ≡ word ++ (zero_x ++ (number ++ (feed ++ rest)))
-regroup_line word zero_x number feed rest = simp append_assoc refl
+-- ---- a text as far as it is read
 
-regroup_all : (image name feed base entry stop full code more bytes symbols «end» : List ℕ) → bytes ≡ [] → symbols ≡ []
-    → image ++ name ++ feed ++ base ++ entry ++ stop ++ full ++ code ++ more ++ bytes ++ symbols ++ «end» ++ feed
-    ≡ image ++ (name ++ (feed ++ (base ++ (entry ++ (stop ++ (full ++ (code ++ (more ++ («end» ++ feed)))))))))
-regroup_all image name feed base entry stop full code more bytes symbols «end» no_bytes no_symbols = rw (no_bytes, no_symbols) (simp append_assoc refl)
+-- these lines of the text are read, whose next is this one, and this much of it is left
+pub record IsReached (d : Parts) (text : List ℕ) (p : Progress) (line : ℕ) (rest : List ℕ) : Type 0 where
+  pub done : List (List ℕ)
+  pub ran : lines_read d (nothing_read d) done ≡ Some p
+  pub lines : lines_of text ≡ done ++ lines_of rest
+  pub count : line ≡ length done + 1
+  pub within : line + length rest ≤ length text + 1
 
-address_line-append : (d : Parts) (word : List ℕ) (at : ℕ) (rest : List ℕ) → address_line d word at ++ rest ≡ address_then d word at rest
-address_line-append d word at rest = regroup_line word (codes "0x") (hexadecimal (digits_of d) at) (10 ∷ []) rest
+pub at_start : (d : Parts) (text : List ℕ) → IsReached d text (nothing_read d) 1 text
+at_start d text = record { done = []; ran = none_read d (nothing_read d); lines = refl; count = refl; within = omega arith }
 
-no_bytes_text : (bytes : List ℕ) → bytes ≡ [] → flat_map (bytes_line bytes) (range_with_len 0 ((length bytes + 15) / 16)) ≡ []
-no_bytes_text bytes none = ap (λ bs. flat_map (bytes_line bs) (range_with_len 0 ((length bs + 15) / 16))) none
+pub at_next : (d : Parts) (text rest : List ℕ) (p q : Progress) (line : ℕ) → 0 < length rest → IsReached d text p line rest → line_read d p (line_split rest).0 ≡ Some q → IsReached d text q (line + 1) (line_split rest).1
+at_next d text rest p q line some h found =
+    let split = is_split rest some in
+    let next : List ℕ = (line_split rest).0 in
+    record {
+      done = h.done ++ next ∷ [];
+      ran = lines_read-append d (nothing_read d) h.done (next ∷ []) ∙ ap (λ o. o >>= (λ r. lines_read d r (next ∷ []))) h.ran ∙ read_then d p q next [] found ∙ none_read d q;
+      lines = h.lines ∙ ap (λ ls. h.done ++ ls) split.lines ∙ sym (append_assoc h.done (next ∷ []) (lines_of (line_split rest).1));
+      count = omega (arith, h.count, length-append h.done (next ∷ []));
+      within = omega (arith, h.within, split.shorter);
+    }
 
-pub spelling-nested : (d : Parts) (i : Image) → i.bytes ≡ [] → i.symbols ≡ [] → spelling d i ≡ image_spelled d i
+-- as far as it is read, a spelling begins with its lines
+before_all : (d : Parts) (text rest : List ℕ) (p : Progress) (line : ℕ) → AreWidths d → IsReached d text p line rest → (k : ℕ) → k < line → IsBeginning d (take k (lines_of text))
+before_all d text rest p line widths h k below =
+    subst (IsBeginning d) (sym (ap (take k) h.lines ∙ take-append-le k h.done (lines_of rest) (omega (arith, h.count)))) (begins d h.done p k widths h.ran)
+
+take_one_more : (done : List (List ℕ)) (line : List ℕ) (more : List (List ℕ)) → take (length done + 1) (done ++ line ∷ more) ≡ done ++ line ∷ []
+take_one_more done line more =
+    ap (take (length done + 1)) (sym (append_assoc done (line ∷ []) more)) ∙ take_at (done ++ line ∷ []) more (length done + 1) (length-append done (line ∷ []))
+
+-- the next line isn't read
+pub at_wrong : (d : Parts) (text rest : List ℕ) (p : Progress) (line : ℕ) → IsTrue (is_isa d) → 0 < length rest → IsReached d text p line rest → line_read d p (line_split rest).0 ≡ None → IsFaultLine d text line
+at_wrong d text rest p line accepted some h wrong =
+    let widths = are_widths d accepted in
+    let next : List ℕ = (line_split rest).0 in
+    let more : List (List ℕ) = lines_of (line_split rest).1 in
+    let all : lines_of text ≡ h.done ++ next ∷ more = h.lines ∙ ap (λ ls. h.done ++ ls) (is_split rest some).lines in
+    let up_to : take line (lines_of text) ≡ h.done ++ next ∷ [] = (λ j. take (h.count j) (all j)) ∙ take_one_more h.done next more in
+    record {
+      no_image = λ i is.
+          let read = spelling_read d i widths is.image in
+          let none : lines_read d (nothing_read d) (lines_of (spelling d i)) ≡ None = ap (λ t. lines_read d (nothing_read d) (lines_of t)) (sym is.text) ∙ ap (lines_read d (nothing_read d)) all ∙ stops d h.done more next p h.ran wrong in
+          none-some (at stages.End read.0 i) (sym none ∙ read.1);
+      before = before_all d text rest p line widths h;
+      here = λ within begin. begins_none d h.done next p widths h.ran wrong (subst (IsBeginning d) up_to begin);
+      within = omega (arith, h.count, ap (λ (ls : List (List ℕ)). length ls) all, length-append h.done (next ∷ more));
+    }
+
+-- ---- the end of a text
+
+pub ends-none : (text : List ℕ) → length text ≡ 0 → ends_with_feed text ≡ false
+unfolding ends_with_feed
+ends-none [] none = refl
+ends-none (c ∷ text) none = absurd (omega arith)
+
+pub ends-snoc : (front : List ℕ) (c : ℕ) → ends_with_feed (front ++ c ∷ []) ≡ eqb c 10
+unfolding ends_with_feed
+ends-snoc [] c = refl
+ends-snoc (b ∷ []) c = refl
+ends-snoc (b ∷ e ∷ front) c = ends-snoc (e ∷ front) c
+
+spelling_ends : (d : Parts) (i : Image) → ends_with_feed (spelling d i) ≡ true
 unfolding spelling
-spelling-nested d i no_bytes no_symbols =
-    regroup_all (codes "image ") d.name (10 ∷ []) (address_line d (codes "base ") i.base) (address_line d (codes "entry ") i.entry) (address_line d (codes "stop ") i.stop) (address_line d (codes "full ") i.full)
-    (flat_map (code_line d) i.code) (address_line d (codes "data ") i.data_base) (flat_map (bytes_line i.bytes) (range_with_len 0 ((length i.bytes + 15) / 16))) (flat_map (symbol_line d) i.symbols) (codes "end")
-    (no_bytes_text i.bytes no_bytes) (ap (λ ss. flat_map (symbol_line d) ss) no_symbols)
-    ∙ ap (λ t. codes "image " ++ (d.name ++ 10 ∷ t))
-    (address_line-append d (codes "base ") i.base _ ∙ ap (address_then d (codes "base ") i.base)
-    (address_line-append d (codes "entry ") i.entry _ ∙ ap (address_then d (codes "entry ") i.entry)
-    (address_line-append d (codes "stop ") i.stop _ ∙ ap (address_then d (codes "stop ") i.stop)
-    (address_line-append d (codes "full ") i.full _ ∙ ap (address_then d (codes "full ") i.full)
-    (ap (λ t. flat_map (code_line d) i.code ++ t) (address_line-append d (codes "data ") i.data_base end_spelled))))))
+spelling_ends d i =
+    let split = joined_ends (codes "image " ++ d.name) (tail_lines d i) in
+    ap ends_with_feed split.1 ∙ ends-snoc split.0 10
 
--- ---- what is spelled so is read
+feed_behind : (text : List ℕ) → ends_with_feed text ≡ true → (front : List ℕ) × (text ≡ front ++ 10 ∷ [])
+unfolding ends_with_feed
+feed_behind [] is = cc
+feed_behind (c ∷ []) is = ([], ap (λ b. b ∷ []) (eqb-eq c is))
+  where
+    eqb-eq : (c : ℕ) → eqb c 10 ≡ true → c ≡ 10
+    eqb-eq c is = grind (arith, nat_tests)
+feed_behind (c ∷ e ∷ text) is = let tail = feed_behind (e ∷ text) is in (c ∷ tail.0, ap (λ t. c ∷ t) tail.1)
 
-no_code : (d : Parts) (i : Image) → rest_after (codes "code ") (data_spelled d i) ≡ None
-unfolding rest_after
-no_code d i = refl
+-- two texts with the same lines that end with a line feed are one
+text_is_lines : (text : List ℕ) → ends_with_feed text ≡ true → flat_map ended_line (lines_of text) ≡ text
+text_is_lines text is =
+    let split = feed_behind text is in
+    ap (λ t. flat_map ended_line (lines_of t)) split.1 ∙ joined-lines_of split.0 ∙ sym split.1
 
-pub image_at-spelled : (d : Parts) (i : Image) → AreWidths d → IsImage d i → i.bytes ≡ [] → i.symbols ≡ [] → image_at d (image_spelled d i) ≡ Some (record { code = i.code; base = i.base; entry = i.entry; stop = i.stop; full = i.full; data_base = i.data_base; bytes = []; symbols = [] })
-unfolding image_at
-image_at-spelled d i widths is no_bytes no_symbols =
-    let space : 16 ^ digits_of d ≡ 2 ^ d.pc.width = address_space d.pc.width widths.pc in
-    let word_space : 16 ^ (2 * word_bytes d) ≡ 2 ^ d.word = word_space d.word widths.word in
-    let words : AllByRecursion (λ word. word < 16 ^ (2 * word_bytes d)) i.code = subst (λ (m : ℕ). AllByRecursion (λ word. word < m) i.code) (sym word_space) (recursion_from_All (λ word. word < 2 ^ d.word) i.code is.words) in
-    rw (fixed_line_at-spelled (codes "image ") d.name (base_spelled d i))
-    (rw (base_line_at-spelled (word_bytes d) (digits_of d) i.base (entry_spelled d i) (omega (arith, space, is.base)) is.aligned)
-    (rw (address_line_at-spelled (codes "entry ") (digits_of d) i.entry (stop_spelled d i) (omega (arith, space, is.entry)))
-    (rw (address_line_at-spelled (codes "stop ") (digits_of d) i.stop (full_spelled d i) (omega (arith, space, is.stop)))
-    (rw (address_line_at-spelled (codes "full ") (digits_of d) i.full (code_spelled d i) (omega (arith, space, is.full)))
-    (rw (code_lines_at-spelled (2 * word_bytes d) (room_of d i.base) i.code (data_spelled d i) words (room_from_ends d.word i.base (2 ^ d.pc.width) (length i.code) widths.word is.code_end) (no_code d i))
-    (rw (address_line_at-spelled (codes "data ") (digits_of d) i.data_base end_spelled (omega (arith, space, is.data_base)))
-    (rw (fixed_line_at-spelled (codes "end") [] []) refl)))))))
+same_lines : (a b : List ℕ) → ends_with_feed a ≡ true → ends_with_feed b ≡ true → lines_of a ≡ lines_of b → a ≡ b
+same_lines a b first second same = sym (text_is_lines a first) ∙ ap (flat_map ended_line) same ∙ text_is_lines b second
 
--- an image without data and symbols, as its other parts
-abbrev bare : Image → Image
-bare i = record { code = i.code; base = i.base; entry = i.entry; stop = i.stop; full = i.full; data_base = i.data_base; bytes = []; symbols = [] }
+all_done : (d : Parts) (text rest : List ℕ) (p : Progress) (line : ℕ) → length rest ≡ 0 → (h : IsReached d text p line rest) → lines_of text ≡ h.done
+all_done d text rest p line none h =
+    h.lines ∙ ap (λ t. h.done ++ lines_of t) (nil_from_length rest none) ∙ ap (λ ls. h.done ++ ls) lines_of-none ∙ append-nil h.done
 
-bare_same : (i : Image) → i.bytes ≡ [] → i.symbols ≡ [] → bare i ≡ i
-bare_same i no_bytes no_symbols =
-    ap (λ bs. record { code = i.code; base = i.base; entry = i.entry; stop = i.stop; full = i.full; data_base = i.data_base; bytes = bs; symbols = [] }) (sym no_bytes)
-    ∙ ap (λ ss. record { code = i.code; base = i.base; entry = i.entry; stop = i.stop; full = i.full; data_base = i.data_base; bytes = i.bytes; symbols = ss }) (sym no_symbols)
+ended_image : (d : Parts) (s : Stage) (left : List ℕ) (i : Image) (lines : List (List ℕ)) → is_ended s ≡ true → IsReadAt d s left i lines → IsImage d i × (lines ≡ name_lines d ++ tail_lines d i)
+ended_image d stages.End left i lines is h = h
+ended_image d stages.Image left i lines is h = cc
+ended_image d stages.Name left i lines is h = cc
+ended_image d stages.Base left i lines is h = cc
+ended_image d stages.Entry left i lines is h = cc
+ended_image d stages.Stop left i lines is h = cc
+ended_image d stages.Full left i lines is h = cc
+ended_image d stages.Code left i lines is h = cc
+ended_image d stages.Bytes left i lines is h = cc
+ended_image d stages.Symbols left i lines is h = cc
 
-pub image_at-spells : (d : Parts) (text : List ℕ) (i : Image) → IsTrue (is_isa d) → IsSpelled d text i → image_at d text ≡ Some i
-image_at-spells d text i typed is =
-    ap (image_at d) (is.text ∙ spelling-nested d i is.no_bytes is.no_symbols)
-    ∙ image_at-spelled d i (are_widths d typed) is.image is.no_bytes is.no_symbols
-    ∙ ap (λ (o : Image). Some o) (bare_same i is.no_bytes is.no_symbols)
+pub at_end : (d : Parts) (text rest : List ℕ) (p : Progress) (line : ℕ) → IsTrue (is_isa d) → length rest ≡ 0 → IsReached d text p line rest → is_ended p.stage ≡ true → ends_with_feed text ≡ true → IsSpelled d text p.image
+at_end d text rest p line accepted none h last feed =
+    let read = ended_image d p.stage p.left p.image h.done last (lines_add d h.done [] (nothing_read d) p (are_widths d accepted) (begun d) h.ran) in
+    record {
+      image = read.0;
+      text = same_lines text (spelling d p.image) feed (spelling_ends d p.image) (all_done d text rest p line none h ∙ read.1 ∙ sym (spelling_lines d p.image read.0));
+    }
 
--- where nothing is read, the text spells no image
-pub no_image : (d : Parts) (text : List ℕ) → IsTrue (is_isa d) → image_at d text ≡ None → IsNoImage d text
-no_image d text typed none i is = absurd (none-some i (sym none ∙ image_at-spells d text i typed is))
+-- more must follow, or the last line feed is lacking
+pub at_short : (d : Parts) (text rest : List ℕ) (p : Progress) (line : ℕ) → IsTrue (is_isa d) → length rest ≡ 0 → IsReached d text p line rest → (is_ended p.stage ≡ false) ⊎ (ends_with_feed text ≡ false) → IsFaultLine d text line
+at_short d text rest p line accepted none h lacking =
+    let widths = are_widths d accepted in
+    let all : lines_of text ≡ h.done = all_done d text rest p line none h in
+    record {
+      no_image = λ i is.
+          let read = spelling_read d i widths is.image in
+          let same : p ≡ at stages.End read.0 i =
+          same_Some p (at stages.End read.0 i) (sym h.ran ∙ ap (lines_read d (nothing_read d)) (sym all) ∙ ap (λ t. lines_read d (nothing_read d) (lines_of t)) is.text ∙ read.1) in
+          none_lacks (ap (λ (q : Progress). is_ended q.stage) same) (ap ends_with_feed is.text ∙ spelling_ends d i) lacking;
+      before = before_all d text rest p line widths h;
+      here = λ within begin. absurd (omega (arith, h.count, within, ap (λ (ls : List (List ℕ)). length ls) all));
+      within = omega (arith, h.count, ap (λ (ls : List (List ℕ)). length ls) all);
+    }
+  where
+    none_lacks : {a b : Bool} → a ≡ true → b ≡ true → (a ≡ false) ⊎ (b ≡ false) → ⊥
+    none_lacks x y (inl z) = cc
+    none_lacks x y (inr z) = cc
 
--- and then the refusal that the text's lines call for is right
-pub is_refused : (d : Parts) (text : List ℕ) (fault : ImageFault) → IsTrue (is_isa d) → image_at d text ≡ None → IsRefusalOf text fault → Refuses d text fault
-is_refused d text (faults.Line line) typed none is = (no_image d text typed none, is)
-is_refused d text (faults.NotBuilt line) typed none is = (no_image d text typed none, is)
-is_refused d text faults.OutOfMemory typed none is = tt
+-- ---- one image, one line
 
 -- two images that one text spells are one
 pub same_image : (d : Parts) (text : List ℕ) (i j : Image) → IsTrue (is_isa d) → IsSpelled d text i → IsSpelled d text j → i ≡ j
-same_image d text i j typed first second = same_Some i j (sym (image_at-spells d text i typed first) ∙ image_at-spells d text j typed second)
+same_image d text i j accepted first second =
+    let widths = are_widths d accepted in
+    let one = spelling_read d i widths first.image in
+    let other = spelling_read d j widths second.image in
+    let same : at stages.End one.0 i ≡ at stages.End other.0 j =
+    same_Some (at stages.End one.0 i) (at stages.End other.0 j) (sym one.1 ∙ ap (λ t. lines_read d (nothing_read d) (lines_of t)) (sym first.text ∙ second.text) ∙ other.1) in
+    ap (λ (p : Progress). p.image) same
 
--- ---- what is read is spelled so
+-- what is read up to the end goes on with no line
+after_end : (d : Parts) (left : List ℕ) (i : Image) (lines : List (List ℕ)) (p : Progress) → lines_read d (at stages.End left i) lines ≡ Some p → lines ≡ []
+unfolding lines_read line_read
+after_end d left i [] p is = refl
+after_end d left i (line ∷ lines) p is = absurd (none-some p is)
 
--- the parts of an image that the lines gave, with what was read of each
-record Lines (d : Parts) (text : List ℕ) (i : Image) : Type 0 where
-  spelled : text ≡ image_spelled d i
-  no_bytes : i.bytes ≡ []
-  no_symbols : i.symbols ≡ []
-  aligned : i.base % word_bytes d ≡ 0
-  base : i.base < 16 ^ digits_of d
-  entry : i.entry < 16 ^ digits_of d
-  stop : i.stop < 16 ^ digits_of d
-  full : i.full < 16 ^ digits_of d
-  data_base : i.data_base < 16 ^ digits_of d
-  words : AllByRecursion (λ word. word < 16 ^ (2 * word_bytes d)) i.code
-  within : length i.code ≤ room_of d i.base
+-- no spelling is a proper prefix of another
+pub no_prefix : (d : Parts) (i j : Image) (rest : List ℕ) → IsTrue (is_isa d) → IsImage d i → IsImage d j → spelling d i ++ rest ≡ spelling d j → rest ≡ []
+no_prefix d i j rest accepted first second is =
+    let widths = are_widths d accepted in
+    let one = spelling_read d i widths first in
+    let other = spelling_read d j widths second in
+    let split = feed_behind (spelling d i) (spelling_ends d i) in
+    let lines : lines_of (spelling d j) ≡ lines_of (spelling d i) ++ lines_of rest =
+    ap lines_of (sym is ∙ ap (λ t. t ++ rest) split.1 ∙ append_assoc split.0 (10 ∷ []) rest) ∙ lines_of-ended split.0 rest ∙ ap (λ t. lines_of t ++ lines_of rest) (sym split.1) in
+    let goes : lines_read d (at stages.End one.0 i) (lines_of rest) ≡ Some (at stages.End other.0 j) =
+    ap (λ o. o >>= (λ q. lines_read d q (lines_of rest))) (sym one.1) ∙ sym (lines_read-append d (nothing_read d) (lines_of (spelling d i)) (lines_of rest)) ∙ ap (lines_read d (nothing_read d)) (sym lines) ∙ other.1 in
+    no_lines rest (after_end d one.0 i (lines_of rest) (at stages.End other.0 j) goes)
+  where
+    no_lines : (rest : List ℕ) → lines_of rest ≡ [] → rest ≡ []
+    no_lines [] none = refl
+    no_lines (c ∷ rest) none = absurd (not_none (sym (is_split (c ∷ rest) (omega arith)).lines ∙ none))
+      where
+        not_none : {first : List ℕ} {others : List (List ℕ)} → first ∷ others ≡ [] → ⊥
+        not_none e = cc
 
-ended_some : (rest : List ℕ) (made i : Image) → ended rest made ≡ Some i → (rest ≡ []) × (made ≡ i)
-ended_some [] made i is = (refl, same_Some made i is)
-ended_some (c ∷ rest) made i is = absurd (none-some i is)
+-- two lines at which one text is refused are one
+pub same_line : (d : Parts) (text : List ℕ) (l m : ℕ) → IsFaultLine d text l → IsFaultLine d text m → l ≡ m
+same_line d text l m first second = not_apart (not_before d text l m first second) (not_before d text m l second first)
+  where
+    not_before : (d : Parts) (text : List ℕ) (l m : ℕ) → IsFaultLine d text l → IsFaultLine d text m → l < m → ⊥
+    not_before d text l m first second below = first.here (omega (arith, second.within, below)) (second.before l below)
 
--- the lines, one behind the other
-lines_put : (d : Parts) (text named : List ℕ) (base entry stop full : ℕ × List ℕ) (code : List ℕ × List ℕ) (data_base : ℕ × List ℕ) (rest : List ℕ) (i : Image)
-    → fixed_line_at (codes "image ") d.name text ≡ Some named
-    → base_line_at (word_bytes d) (digits_of d) named ≡ Some base
-    → address_line_at (codes "entry ") (digits_of d) base.1 ≡ Some entry
-    → address_line_at (codes "stop ") (digits_of d) entry.1 ≡ Some stop
-    → address_line_at (codes "full ") (digits_of d) stop.1 ≡ Some full
-    → code_lines_at (2 * word_bytes d) (room_of d base.0) full.1 ≡ Some code
-    → address_line_at (codes "data ") (digits_of d) code.1 ≡ Some data_base
-    → fixed_line_at (codes "end") [] data_base.1 ≡ Some rest
-    → ended rest (record { code = code.0; base = base.0; entry = entry.0; stop = stop.0; full = full.0; data_base = data_base.0; bytes = []; symbols = [] }) ≡ Some i
-    → Lines d text i
-lines_put d text named base entry stop full code data_base rest i is_named is_base is_entry is_stop is_full is_code is_data_base is_rest is_ended =
-    let made : Image = record { code = code.0; base = base.0; entry = entry.0; stop = stop.0; full = full.0; data_base = data_base.0; bytes = []; symbols = [] } in
-    let done = ended_some rest made i is_ended in
-    let base_line = spelled-base_line_at (word_bytes d) (digits_of d) named base is_base in
-    let entry_line = spelled-address_line_at (codes "entry ") (digits_of d) base.1 entry is_entry in
-    let stop_line = spelled-address_line_at (codes "stop ") (digits_of d) entry.1 stop is_stop in
-    let full_line = spelled-address_line_at (codes "full ") (digits_of d) stop.1 full is_full in
-    let code_read = are_lines (2 * word_bytes d) (room_of d base.0) full.1 code is_code in
-    let data_line = spelled-address_line_at (codes "data ") (digits_of d) code.1 data_base is_data_base in
-    let at_end : data_base.1 ≡ end_spelled = spelled-fixed_line_at (codes "end") [] data_base.1 rest is_rest ∙ ap (λ t. codes "end" ++ ([] ++ 10 ∷ t)) done.0 in
-    let at_data : code.1 ≡ data_spelled d made = data_line.0 ∙ ap (address_then d (codes "data ") data_base.0) at_end in
-    let at_code : full.1 ≡ code_spelled d made = code_read.spelled ∙ ap (λ t. flat_map (line (2 * word_bytes d)) code.0 ++ t) at_data in
-    let at_full : stop.1 ≡ full_spelled d made = full_line.0 ∙ ap (address_then d (codes "full ") full.0) at_code in
-    let at_stop : entry.1 ≡ stop_spelled d made = stop_line.0 ∙ ap (address_then d (codes "stop ") stop.0) at_full in
-    let at_entry : base.1 ≡ entry_spelled d made = entry_line.0 ∙ ap (address_then d (codes "entry ") entry.0) at_stop in
-    let at_base : named ≡ base_spelled d made = base_line.0.0 ∙ ap (address_then d (codes "base ") base.0) at_entry in
-    subst (Lines d text) done.1
-    (record {
-      spelled = spelled-fixed_line_at (codes "image ") d.name text named is_named ∙ ap (λ t. codes "image " ++ (d.name ++ 10 ∷ t)) at_base;
-      no_bytes = refl;
-      no_symbols = refl;
-      aligned = base_line.1;
-      base = base_line.0.1;
-      entry = entry_line.1;
-      stop = stop_line.1;
-      full = full_line.1;
-      data_base = data_line.1;
-      words = code_read.words;
-      within = code_read.within;
-    })
+    not_apart : {l m : ℕ} → (l < m → ⊥) → (m < l → ⊥) → l ≡ m
+    not_apart f g = omega (arith, f, g)
 
-lines_read : (d : Parts) (text : List ℕ) (i : Image) → image_at d text ≡ Some i → Lines d text i
-unfolding image_at
-lines_read d text i is =
-    bind_elim (fixed_line_at (codes "image ") d.name text) _ i (Lines d text i) is (λ named is_named more1.
-    bind_elim (base_line_at (word_bytes d) (digits_of d) named) _ i (Lines d text i) more1 (λ base is_base more2.
-    bind_elim (address_line_at (codes "entry ") (digits_of d) base.1) _ i (Lines d text i) more2 (λ entry is_entry more3.
-    bind_elim (address_line_at (codes "stop ") (digits_of d) entry.1) _ i (Lines d text i) more3 (λ stop is_stop more4.
-    bind_elim (address_line_at (codes "full ") (digits_of d) stop.1) _ i (Lines d text i) more4 (λ full is_full more5.
-    bind_elim (code_lines_at (2 * word_bytes d) (room_of d base.0) full.1) _ i (Lines d text i) more5 (λ code is_code more6.
-    bind_elim (address_line_at (codes "data ") (digits_of d) code.1) _ i (Lines d text i) more6 (λ data_base is_data_base more7.
-    bind_elim (fixed_line_at (codes "end") [] data_base.1) _ i (Lines d text i) more7 (λ rest is_rest more8.
-    lines_put d text named base entry stop full code data_base rest i is_named is_base is_entry is_stop is_full is_code is_data_base is_rest more8))))))))
+-- ---- what the code's tests say
 
-no_symbols_all : (d : Parts) (symbols : List Symbol) → symbols ≡ [] → All (IsSymbol d) symbols
-no_symbols_all d symbols none = let P : List Symbol → Type 0 = λ ss. All (IsSymbol d) ss in subst P (sym none) (λ k symbol below. absurd (omega arith))
+pub left_of : (rest : List ℕ) → false ≡ nat_eq (length rest) 0 → 0 < length rest
+left_of rest is = grind (arith, nat_tests)
 
--- what is read is the image that the text spells
-pub image_at-read : (d : Parts) (text : List ℕ) (i : Image) → IsTrue (is_isa d) → image_at d text ≡ Some i → IsSpelled d text i
-image_at-read d text i typed is =
-    let widths = are_widths d typed in
-    let space : 16 ^ digits_of d ≡ 2 ^ d.pc.width = address_space d.pc.width widths.pc in
-    let read = lines_read d text i is in
-    record {
-      image = record {
-        aligned = read.aligned;
-        base = omega (arith, space, read.base);
-        entry = omega (arith, space, read.entry);
-        stop = omega (arith, space, read.stop);
-        full = omega (arith, space, read.full);
-        data_base = omega (arith, space, read.data_base);
-        words = All-from_recursion (λ word. word < 2 ^ d.word) i.code (subst (λ (m : ℕ). AllByRecursion (λ word. word < m) i.code) (word_space d.word widths.word) read.words);
-        code_end = ends_from_room d.word i.base (2 ^ d.pc.width) (length i.code) widths.word (omega (arith, space, read.base)) read.within;
-        symbols = no_symbols_all d i.symbols read.no_symbols;
-        bytes = rw read.no_bytes (λ k x within. absurd (omega arith));
-        data_end = omega (arith, space, read.data_base, ap (λ (bs : List ℕ). length bs) read.no_bytes);
-      };
-      no_bytes = read.no_bytes;
-      no_symbols = read.no_symbols;
-      text = read.spelled ∙ sym (spelling-nested d i read.no_bytes read.no_symbols);
-    }
+pub none_of : (rest : List ℕ) → true ≡ nat_eq (length rest) 0 → length rest ≡ 0
+none_of rest is = grind (arith, nat_tests)
+
+pub not_wrong : (e : Refusal) (read : Option Progress) → e ≡ refusals.Wrong → Fails e read → read ≡ None
+not_wrong e read is failed = subst (λ r. Fails r read) is failed

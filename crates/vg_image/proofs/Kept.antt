@@ -2,9 +2,7 @@
 use Rattle.std.proofs.Common.{◌≡◌, ℕ, zero, suc, ◌+◌, ◌/◌, ◌%◌, ◌^◌, ◌<◌, ◌≤◌, Bool, true, false, ◌&&◌, cond, IsTrue, nat_eq, List, [], ◌∷◌, length, slice_get, slice_index, slice_set, Some, None, Option, unwrap_or, arith, refl, sym, ◌∙◌, subst, if◌then◌else◌}
 use Rattle.std.specs.Option.{option_map, option_map_or}
 use Rattle.std.specs.List.{cons_option, filter_map, list_all, AllByRecursion}
-use Rattle.std.specs.Ordering.{nat_cmp, eq_by_cmp}
-use Rattle.std.specs.Cmp.{nat_cmp_total}
-use Rattle.std.specs.FinMap.{FinMap, empty, get, insert, remove, get-empty, get-insert, get-remove}
+use Rattle.std.specs.FinMap.{empty}
 use Rattle.std.proofs.lemmas.Bool.{and_from as conjunction}
 use Rattle.std.proofs.lemmas.Bool.Decides.{nat_tests}
 use Rattle.std.proofs.lemmas.Nat.{pow_pos, mod_below}
@@ -32,57 +30,12 @@ use Rattle.vg_image.specs.declared.ending.Ending.{Ending}
 use Rattle.vg_image.specs.declared.ending.Ending.TheVariants.{End, StackEnd}
 use Rattle.vg_format.specs.Matching.{decoded}
 use Rattle.vg_image.specs.Spelling.{IsImage}
-use Rattle.vg_image.specs.State.{AreBytes, IsState, State, all_written, are_files, first_state, is_file_of, is_zero_register, laid, numbers_of, put, reads_of, register_written, resource_written, state_after, stored}
+use Rattle.vg_mem.specs.Bytes.{AreBytes}
+use Rattle.vg_mem.proofs.Bytes.{byte_small, empty_keeps, laid_keeps, stored_keeps}
+use Rattle.vg_image.specs.State.{IsState, State, all_written, are_files, first_state, is_file_of, is_zero_register, numbers_of, reads_of, register_written, resource_written, state_after}
 use Rattle.vg_image.specs.Step.{Step, Moved, Over, executed, instr_step, step_of, word_at, word_step}
 use Rattle.vg_image.specs.Run.{after, behind}
 use Rattle.vg_image.proofs.Files.{set_fits, zeros_fit}
-
--- ---- bytes
-
--- a choice of what is at an address keeps what both choices keep
-either_byte : (space at byte : ℕ) (b : Bool) (x y : Option ℕ) → (x ≡ Some byte → (at < space) × (0 < byte) × (byte < 256)) → (y ≡ Some byte → (at < space) × (0 < byte) × (byte < 256)) → cond b x y ≡ Some byte → (at < space) × (0 < byte) × (byte < 256)
-either_byte space at byte true x y f g h = f h
-either_byte space at byte false x y f g h = g h
-
-no_byte : (byte : ℕ) → None ≡ Some byte → ⊥
-no_byte byte h = cc
-
--- an equal key is the key
-tied : (q k : ℕ) → eq_by_cmp nat_cmp q k ≡ true → q ≡ k
-tied q k h = grind (arith, nat_tests)
-
-put_keeps : (space : ℕ) (m : FinMap nat_cmp ℕ) (k byte : ℕ) → AreBytes space m → k < space → byte < 256 → AreBytes space (put m k byte)
-put_keeps space m k byte kept within small = of (nat_eq byte 0) refl
-  where
-    of : (b : Bool) → nat_eq byte 0 ≡ b → AreBytes space (if b then remove m k else insert m k byte)
-    of true e q x h = either_byte space q x (eq_by_cmp nat_cmp q k) None (get m q) (λ none. absurd (no_byte x none)) (kept q x) (sym (get-remove nat_cmp_total m k q) ∙ h)
-    of false e q x h = at (eq_by_cmp nat_cmp q k) refl (sym (get-insert nat_cmp_total m k byte q) ∙ h)
-      where
-        same : Some byte ≡ Some x → byte ≡ x
-        same s = cc
-
-        some : 0 < byte
-        some = grind (arith, nat_tests)
-
-        at : (b : Bool) → eq_by_cmp nat_cmp q k ≡ b → cond b (Some byte) (get m q) ≡ Some x → (q < space) × (0 < x) × (x < 256)
-        at true key found =
-            let is : byte ≡ x = same found in
-            let here : q ≡ k = tied q k key in
-            (omega arith, omega (arith, some), omega arith)
-        at false key found = kept q x found
-
-stored_keeps : (space at n value : ℕ) (m : FinMap nat_cmp ℕ) → 0 < space → AreBytes space m → AreBytes space (stored space at n value m)
-stored_keeps space at zero value m some kept = kept
-stored_keeps space at (suc n) value m some kept =
-    put_keeps space (stored space (at + 1) n (value / 256) m) (at % space) (value % 256) (stored_keeps space (at + 1) n (value / 256) m some kept) (mod_below at space some) (mod_below value 256 (omega arith))
-
-empty_keeps : (space : ℕ) → AreBytes space empty
-empty_keeps space q x h = absurd (no_byte x (sym (get-empty nat_cmp q) ∙ h))
-
-laid_keeps : (space at : ℕ) (bytes : List ℕ) (m : FinMap nat_cmp ℕ) → AreBytes space m → AllByRecursion (λ byte. byte < 256) bytes → at + length bytes ≤ space → AreBytes space (laid at bytes m)
-laid_keeps space at [] m kept small within = kept
-laid_keeps space at (byte ∷ bytes) m kept small within =
-    put_keeps space (laid (at + 1) bytes m) at byte (laid_keeps space (at + 1) bytes m kept small.1 (omega arith)) (omega arith) small.0
 
 -- ---- registers
 
@@ -115,13 +68,6 @@ files_set (decl ∷ regs) (numbers ∷ files) (suc r) i n h unset below =
 zero_or_number : (b : Bool) (n m : ℕ) → n < m → (if b then 0 else n) < m
 zero_or_number true n m h = omega arith
 zero_or_number false n m h = h
-
-byte_small : (space at : ℕ) (m : FinMap nat_cmp ℕ) → AreBytes space m → unwrap_or (get m at) 0 < 256
-byte_small space at m kept = small (get m at) refl
-  where
-    small : (o : Option ℕ) → get m at ≡ o → unwrap_or o 0 < 256
-    small None e = omega arith
-    small (Some byte) e = (kept at byte e).2
 
 -- a state of a description is a lawful one
 pub lawful : (d : Parts) (s : State) → IsState d s → IsLawful d (reads_of d s)

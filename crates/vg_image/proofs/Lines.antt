@@ -1,129 +1,124 @@
--- The laws of single lines: what is read is spelled so, and what is spelled so is read.
-use Rattle.std.proofs.Common.{◌≡◌, ℕ, ◌%◌, ◌^◌, ◌<◌, eqb, List, [], ◌∷◌, ◌++◌, Some, None, ap, ◌∙◌, subst, inl, inr}
-use Rattle.std.specs.Prelude.{codes, if◌then◌else◌}
-use Rattle.std.proofs.lemmas.Bool.{cases_eq, eq-eqb, ne_eqb}
-use Rattle.std.proofs.lemmas.Option.{none-some, same_Some}
-use Rattle.vg_text.specs.Number.{hexadecimal, hexadecimal_at}
-use Rattle.vg_text.specs.Piece.{rest_after}
-use Rattle.vg_text.proofs.Pieces.{rest_after-append, append-rest_after}
-use Rattle.vg_text.proofs.Hexadecimal.{hexadecimal_at-hexadecimal, hexadecimal-hexadecimal_at}
-use Rattle.vg_image.specs.Reader.{◌>>=◌, fixed_line_at, address_at, address_line_at, base_line_at, word_line_at}
-use Rattle.vg_image.proofs.Bind.{bind_elim}
+-- The lines of a text, one by one.
+use Rattle.std.proofs.Common.{◌≡◌, ℕ, ◌+◌, ◌<◌, IsTrue, not, eqb, List, [], ◌∷◌, ◌++◌, length, Option, Some, None, unwrap_or, refl, ap, sym, ◌∙◌, subst, inl, inr, append_assoc, arith, length-append, if◌then◌else◌}
+use Rattle.std.specs.Prelude.{flat_map}
+use Rattle.std.specs.List.{AllByRecursion}
+use Rattle.std.proofs.lemmas.Bool.{and_parts, cases_eq, eq-eqb, ne_eqb, not-true}
+use Rattle.std.proofs.lemmas.List.{append-nil}
+use Rattle.vg_text.specs.Piece.{lacks, line_at}
+use Rattle.vg_text.proofs.Pieces.{append-line_at, cases_option, lacks-line_at_none}
+use Rattle.vg_image.specs.Lines.{ended_line, led_by, lines_of}
+use Rattle.vg_image.specs.Reader.{line_split}
 
--- ---- a word and a name
+-- a line with its line feed, and what follows it
+pub lines_of-line : (line rest : List ℕ) → IsTrue (lacks 10 line) → lines_of (line ++ 10 ∷ rest) ≡ line ∷ lines_of rest
+unfolding lines_of
+lines_of-line [] rest without = refl
+lines_of-line (c ∷ line) rest without =
+    let parts = and_parts (not (eqb c 10)) (lacks 10 line) without in
+    rw (not-true (eqb c 10) parts.0, lines_of-line line rest parts.1) refl
 
-pub fixed_line_at-spelled : (word name rest : List ℕ) → fixed_line_at word name (word ++ (name ++ 10 ∷ rest)) ≡ Some rest
-unfolding fixed_line_at
-fixed_line_at-spelled word name rest =
-    rw (rest_after-append word (name ++ 10 ∷ rest), rest_after-append name (10 ∷ rest)) (rest_after-append (10 ∷ []) rest)
+-- a rest without a line feed
+pub lines_of-rest : (c : ℕ) (line : List ℕ) → IsTrue (lacks 10 (c ∷ line)) → lines_of (c ∷ line) ≡ (c ∷ line) ∷ []
+unfolding lines_of
+lines_of-rest c [] without =
+    let parts = and_parts (not (eqb c 10)) (lacks 10 []) without in
+    rw (not-true (eqb c 10) parts.0) refl
+lines_of-rest c (e ∷ line) without =
+    let parts = and_parts (not (eqb c 10)) (lacks 10 (e ∷ line)) without in
+    rw (not-true (eqb c 10) parts.0) (ap (led_by c) (lines_of-rest e line parts.1))
 
-pub spelled-fixed_line_at : (word name text rest : List ℕ) → fixed_line_at word name text ≡ Some rest → text ≡ word ++ (name ++ 10 ∷ rest)
-unfolding fixed_line_at
-spelled-fixed_line_at word name text rest is =
-    bind_elim (rest_after word text) (λ front. rest_after name front >>= λ behind. rest_after (10 ∷ []) behind) rest (text ≡ word ++ (name ++ 10 ∷ rest)) is
-    (λ front first is1. bind_elim (rest_after name front) (λ behind. rest_after (10 ∷ []) behind) rest (text ≡ word ++ (name ++ 10 ∷ rest)) is1
-    (λ behind second third.
-    append-rest_after word text front first
-    ∙ ap (λ t. word ++ t) (append-rest_after name front behind second ∙ ap (λ t. name ++ t) (append-rest_after (10 ∷ []) behind rest third))))
+pub lines_of-none : lines_of [] ≡ []
+unfolding lines_of
+lines_of-none = refl
 
--- ---- an address
+-- the first line of a text that isn't empty, and the others
+pub record IsSplit (text line rest : List ℕ) : Type 0 where
+  pub lines : lines_of text ≡ line ∷ lines_of rest
+  pub shorter : length rest < length text
 
--- an address behind a word, and what follows it
-abbrev pub address_spelled : List ℕ → ℕ → ℕ → List ℕ → List ℕ
-address_spelled word digits n rest = word ++ (codes "0x" ++ (hexadecimal digits n ++ rest))
+split_at : (c : ℕ) (text : List ℕ) (o : Option (List ℕ × List ℕ)) → line_at (c ∷ text) ≡ o → IsSplit (c ∷ text) (unwrap_or o (c ∷ text, [])).0 (unwrap_or o (c ∷ text, [])).1
+split_at c text None is = record {
+  lines = lines_of-rest c text (lacks-line_at_none (c ∷ text) is) ∙ ap (λ ls. (c ∷ text) ∷ ls) (sym lines_of-none);
+  shorter = omega arith;
+}
+split_at c text (Some split) is =
+    let found = append-line_at (c ∷ text) split is in
+    record {
+      lines = ap lines_of found.0 ∙ lines_of-line split.0 split.1 found.1;
+      shorter = omega (arith, ap length found.0, length-append split.0 (10 ∷ split.1));
+    }
 
-pub address_at-spelled : (word : List ℕ) (digits n : ℕ) (rest : List ℕ) → n < 16 ^ digits → address_at word digits (address_spelled word digits n rest) ≡ Some (n, rest)
-unfolding address_at
-address_at-spelled word digits n rest below =
-    let x : List ℕ = codes "0x" in
-    rw (rest_after-append word (x ++ (hexadecimal digits n ++ rest)))
-    (ap (λ o. o >>= (λ behind. hexadecimal_at digits behind)) (rest_after-append x (hexadecimal digits n ++ rest)) ∙ hexadecimal_at-hexadecimal digits n rest below)
+pub is_split : (text : List ℕ) → 0 < length text → IsSplit text (line_split text).0 (line_split text).1
+is_split [] some = absurd (omega arith)
+is_split (c ∷ text) some = split_at c text (line_at (c ∷ text)) refl
 
-abbrev IsAddress : List ℕ → ℕ → List ℕ → ℕ × List ℕ → Type 0
-IsAddress word digits text found = (text ≡ address_spelled word digits found.0 found.1) × (found.0 < 16 ^ digits)
+-- ---- lines that are put together
 
-pub spelled-address_at : (word : List ℕ) (digits : ℕ) (text : List ℕ) (found : ℕ × List ℕ) → address_at word digits text ≡ Some found → (text ≡ address_spelled word digits found.0 found.1) × (found.0 < 16 ^ digits)
-unfolding address_at
-spelled-address_at word digits text found is =
-    bind_elim (rest_after word text) (λ front. rest_after (codes "0x") front >>= λ behind. hexadecimal_at digits behind) found (IsAddress word digits text found) is
-    (λ front first is1. bind_elim (rest_after (codes "0x") front) (λ behind. hexadecimal_at digits behind) found (IsAddress word digits text found) is1
-    (λ behind second third.
-    let number = hexadecimal-hexadecimal_at digits behind found third in (
-      append-rest_after word text front first
-          ∙ ap (λ t. word ++ t) (append-rest_after (codes "0x") front behind second ∙ ap (λ t. codes "0x" ++ t) number.0),
-      number.1,
-    )))
+-- a text that ends with a line feed has a line
+pub record HasFirst (lines : List (List ℕ)) : Type 0 where
+  pub first : List ℕ
+  pub others : List (List ℕ)
+  pub is : lines ≡ first ∷ others
 
--- ---- a line of an address
+pub ended_has_first : (text : List ℕ) → HasFirst (lines_of (text ++ 10 ∷ []))
+unfolding lines_of
+ended_has_first [] = record { first = []; others = []; is = refl }
+ended_has_first (c ∷ text) =
+    let tail = ended_has_first text in
+    elim (cases_eq c 10) [
+      | inl same ↦ record { first = []; others = lines_of (text ++ 10 ∷ []); is = rw (eq-eqb c 10 same) refl }
+      | inr other ↦ record { first = c ∷ tail.first; others = tail.others; is = rw (ne_eqb c 10 other) (ap (led_by c) tail.is) }
+    ]
 
-pub address_line_at-spelled : (word : List ℕ) (digits n : ℕ) (rest : List ℕ) → n < 16 ^ digits → address_line_at word digits (address_spelled word digits n (10 ∷ rest)) ≡ Some (n, rest)
-unfolding address_line_at
-address_line_at-spelled word digits n rest below =
-    ap (λ o. o >>= (λ found. rest_after (10 ∷ []) found.1 >>= (λ next. Some (found.0, next)))) (address_at-spelled word digits n (10 ∷ rest) below)
-    ∙ ap (λ o. o >>= (λ next. Some (n, next))) (rest_after-append (10 ∷ []) rest)
+led_joined : (c : ℕ) (lines : List (List ℕ)) → HasFirst lines → flat_map ended_line (led_by c lines) ≡ c ∷ flat_map ended_line lines
+led_joined c lines has =
+    ap (λ ls. flat_map ended_line (led_by c ls)) has.is ∙ ap (λ ls. c ∷ flat_map ended_line ls) (sym has.is)
 
-abbrev IsAddressLine : List ℕ → ℕ → List ℕ → ℕ × List ℕ → Type 0
-IsAddressLine word digits text x = (text ≡ address_spelled word digits x.0 (10 ∷ x.1)) × (x.0 < 16 ^ digits)
+-- such a text is its lines
+pub joined-lines_of : (text : List ℕ) → flat_map ended_line (lines_of (text ++ 10 ∷ [])) ≡ text ++ 10 ∷ []
+unfolding lines_of
+joined-lines_of [] = refl
+joined-lines_of (c ∷ text) =
+    elim (cases_eq c 10) [
+      | inl same ↦ rw (eq-eqb c 10 same) (λ j. sym same j ∷ joined-lines_of text j)
+      | inr other ↦ rw (ne_eqb c 10 other) (led_joined c (lines_of (text ++ 10 ∷ [])) (ended_has_first text) ∙ ap (λ t. c ∷ t) (joined-lines_of text))
+    ]
 
--- a line feed behind a number
-ended : (word : List ℕ) (digits : ℕ) (text : List ℕ) (found x : ℕ × List ℕ) → address_at word digits text ≡ Some found → (rest_after (10 ∷ []) found.1 >>= (λ next. Some (found.0, next))) ≡ Some x → IsAddressLine word digits text x
-ended word digits text found x is more =
-    bind_elim (rest_after (10 ∷ []) found.1) (λ next. Some (found.0, next)) x (IsAddressLine word digits text x) more
-    (λ next feed made.
-    let address = spelled-address_at word digits text found is in
-    subst (IsAddressLine word digits text) (same_Some (found.0, next) x made)
-    (address.0 ∙ ap (λ t. address_spelled word digits found.0 t) (append-rest_after (10 ∷ []) found.1 next feed), address.1))
+led_more : (c : ℕ) (lines more : List (List ℕ)) → HasFirst lines → led_by c (lines ++ more) ≡ led_by c lines ++ more
+led_more c lines more has =
+    ap (λ ls. led_by c (ls ++ more)) has.is ∙ ap (λ ls. led_by c ls ++ more) (sym has.is)
 
-pub spelled-address_line_at : (word : List ℕ) (digits : ℕ) (text : List ℕ) (x : ℕ × List ℕ) → address_line_at word digits text ≡ Some x → (text ≡ address_spelled word digits x.0 (10 ∷ x.1)) × (x.0 < 16 ^ digits)
-unfolding address_line_at
-spelled-address_line_at word digits text x is =
-    bind_elim (address_at word digits text) (λ found. rest_after (10 ∷ []) found.1 >>= λ next. Some (found.0, next)) x (IsAddressLine word digits text x) is
-    (λ found first more. ended word digits text found x first more)
+-- what follows a line feed are lines of their own
+pub lines_of-ended : (text rest : List ℕ) → lines_of (text ++ 10 ∷ rest) ≡ lines_of (text ++ 10 ∷ []) ++ lines_of rest
+unfolding lines_of
+lines_of-ended [] rest = refl
+lines_of-ended (c ∷ text) rest =
+    elim (cases_eq c 10) [
+      | inl same ↦ rw (eq-eqb c 10 same) (ap (λ ls. [] ∷ ls) (lines_of-ended text rest))
+      | inr other ↦ rw (ne_eqb c 10 other) (ap (led_by c) (lines_of-ended text rest) ∙ led_more c (lines_of (text ++ 10 ∷ [])) (lines_of rest) (ended_has_first text))
+    ]
 
--- ---- the line of the base
+-- lines that have no line feed
+abbrev pub AreLines : List (List ℕ) → Type 0
+AreLines lines = AllByRecursion (λ line. IsTrue (lacks 10 line)) lines
 
-pub base_line_at-spelled : (bytes digits n : ℕ) (rest : List ℕ) → n < 16 ^ digits → n % bytes ≡ 0 → base_line_at bytes digits (address_spelled (codes "base ") digits n (10 ∷ rest)) ≡ Some (n, rest)
-unfolding base_line_at
-base_line_at-spelled bytes digits n rest below aligned =
-    ap (λ o. o >>= (λ found. if eqb (found.0 % bytes) 0 then (rest_after (10 ∷ []) found.1 >>= (λ next. Some (found.0, next))) else None)) (address_at-spelled (codes "base ") digits n (10 ∷ rest) below)
-    ∙ ap (λ b. if b then (rest_after (10 ∷ []) (10 ∷ rest) >>= (λ next. Some (n, next))) else None) (eq-eqb (n % bytes) 0 aligned)
-    ∙ ap (λ o. o >>= (λ next. Some (n, next))) (rest_after-append (10 ∷ []) rest)
+pub lines_of-joined : (lines : List (List ℕ)) → AreLines lines → lines_of (flat_map ended_line lines) ≡ lines
+lines_of-joined [] without = lines_of-none
+lines_of-joined (line ∷ lines) without =
+    ap lines_of (append_assoc line (10 ∷ []) (flat_map ended_line lines))
+    ∙ lines_of-line line (flat_map ended_line lines) without.0
+    ∙ ap (λ ls. line ∷ ls) (lines_of-joined lines without.1)
 
-abbrev IsBaseLine : ℕ → ℕ → List ℕ → ℕ × List ℕ → Type 0
-IsBaseLine bytes digits text x = IsAddressLine (codes "base ") digits text x × (x.0 % bytes ≡ 0)
+-- a first line that may have line feeds, and lines
+pub lines_of-joined_first : (first : List ℕ) (lines : List (List ℕ)) → AreLines lines → lines_of (flat_map ended_line (first ∷ lines)) ≡ lines_of (first ++ 10 ∷ []) ++ lines
+lines_of-joined_first first lines without =
+    ap lines_of (append_assoc first (10 ∷ []) (flat_map ended_line lines))
+    ∙ lines_of-ended first (flat_map ended_line lines)
+    ∙ ap (λ ls. lines_of (first ++ 10 ∷ []) ++ ls) (lines_of-joined lines without)
 
-pub spelled-base_line_at : (bytes digits : ℕ) (text : List ℕ) (x : ℕ × List ℕ) → base_line_at bytes digits text ≡ Some x
-    → ((text ≡ address_spelled (codes "base ") digits x.0 (10 ∷ x.1)) × (x.0 < 16 ^ digits)) × (x.0 % bytes ≡ 0)
-unfolding base_line_at
-spelled-base_line_at bytes digits text x is =
-    bind_elim (address_at (codes "base ") digits text) (λ found. if eqb (found.0 % bytes) 0 then (rest_after (10 ∷ []) found.1 >>= λ next. Some (found.0, next)) else None) x (IsBaseLine bytes digits text x) is
-    (λ found first given. elim (cases_eq (found.0 % bytes) 0) [
-      | inl same ↦
-          let more : (rest_after (10 ∷ []) found.1 >>= (λ next. Some (found.0, next))) ≡ Some x = rw (eq-eqb (found.0 % bytes) 0 same) at given in
-          bind_elim (rest_after (10 ∷ []) found.1) (λ next. Some (found.0, next)) x (IsBaseLine bytes digits text x) more
-          (λ next feed made.
-          let number : found.0 ≡ x.0 = ap (λ p. p.0) (same_Some (found.0, next) x made) in
-          (ended (codes "base ") digits text found x first more, subst (λ n. n % bytes ≡ 0) number same))
-      | inr other ↦ let none = rw (ne_eqb (found.0 % bytes) 0 other) at given in absurd (none-some x none)
-    ])
-
--- ---- the line of a code word, behind `code `
-
-pub word_line_at-spelled : (digits n : ℕ) (rest : List ℕ) → n < 16 ^ digits → word_line_at digits (hexadecimal digits n ++ 10 ∷ rest) ≡ Some (n, rest)
-unfolding word_line_at
-word_line_at-spelled digits n rest below =
-    ap (λ o. o >>= (λ found. rest_after (10 ∷ []) found.1 >>= (λ next. Some (found.0, next)))) (hexadecimal_at-hexadecimal digits n (10 ∷ rest) below)
-    ∙ ap (λ o. o >>= (λ next. Some (n, next))) (rest_after-append (10 ∷ []) rest)
-
-abbrev IsWordLine : ℕ → List ℕ → ℕ × List ℕ → Type 0
-IsWordLine digits text x = (text ≡ hexadecimal digits x.0 ++ 10 ∷ x.1) × (x.0 < 16 ^ digits)
-
-pub spelled-word_line_at : (digits : ℕ) (text : List ℕ) (x : ℕ × List ℕ) → word_line_at digits text ≡ Some x → (text ≡ hexadecimal digits x.0 ++ 10 ∷ x.1) × (x.0 < 16 ^ digits)
-unfolding word_line_at
-spelled-word_line_at digits text x is =
-    bind_elim (hexadecimal_at digits text) (λ found. rest_after (10 ∷ []) found.1 >>= λ next. Some (found.0, next)) x (IsWordLine digits text x) is
-    (λ found first more. bind_elim (rest_after (10 ∷ []) found.1) (λ next. Some (found.0, next)) x (IsWordLine digits text x) more
-    (λ next feed made.
-    let number = hexadecimal-hexadecimal_at digits text found first in
-    subst (IsWordLine digits text) (same_Some (found.0, next) x made)
-    (number.0 ∙ ap (λ t. hexadecimal digits found.0 ++ t) (append-rest_after (10 ∷ []) found.1 next feed), number.1)))
+-- lines that are put together end with a line feed
+pub joined_ends : (line : List ℕ) (lines : List (List ℕ)) → (front : List ℕ) × (flat_map ended_line (line ∷ lines) ≡ front ++ 10 ∷ [])
+joined_ends line [] = (line, append-nil (line ++ 10 ∷ []))
+joined_ends line (next ∷ lines) =
+    let tail = joined_ends next lines in
+    (ended_line line ++ tail.0, ap (λ t. ended_line line ++ t) tail.1 ∙ sym (append_assoc (ended_line line) tail.0 (10 ∷ [])))

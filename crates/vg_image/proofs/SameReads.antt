@@ -1,10 +1,6 @@
 -- Two states that read alike are one.
 use Rattle.std.proofs.Common.{◌≡◌, ℕ, zero, suc, ◌<◌, ◌≤◌, ◌^◌, Bool, true, false, IsTrue, nat_eq, nat_lt, List, [], ◌∷◌, slice_get, slice_index, Some, None, Option, unwrap_or, arith, refl, sym, ap, ◌∙◌, subst, if◌then◌else◌}
 use Rattle.std.specs.Option.{option_map_or}
-use Rattle.std.specs.Ordering.{nat_cmp}
-use Rattle.std.specs.Cmp.{nat_cmp_total}
-use Rattle.std.specs.FinMap.{FinMap, get, same_map, nat_cmp-IsAntisymmetric}
-use Rattle.std.proofs.lemmas.Bool.Decides.{nat_tests}
 use Rattle.std.proofs.lemmas.Grind.{same_number_lists}
 use Rattle.vg_bits.specs.BitValue.{BitValue}
 use Rattle.vg_isa.specs.declared.isa.Parts.{Parts}
@@ -12,7 +8,8 @@ use Rattle.vg_isa.specs.declared.declaration.RegDecl.{RegDecl}
 use Rattle.vg_isa.specs.Declaration.{has_register, register_count}
 use Rattle.vg_isa.specs.Value.{ReadAlike}
 use Rattle.vg_isa.proofs.Tests.{both, nat_lt-true, true-nat_eq}
-use Rattle.vg_image.specs.State.{AreBytes, IsState, State, are_files, is_file_of, is_zero_register, reads_of}
+use Rattle.vg_mem.proofs.Bytes.{bytes_same}
+use Rattle.vg_image.specs.State.{IsState, State, are_files, is_file_of, is_zero_register, reads_of}
 use Rattle.vg_image.proofs.Files.{length-file}
 
 -- what is read of a declaration's numbers
@@ -51,36 +48,6 @@ files_same (decl ∷ regs) (x ∷ xs) (y ∷ ys) g h alike =
     let here : x ≡ y = file_same decl x y left.0 right.0 (λ i within. alike zero i (nat_lt-true _ _ within)) in
     let rest : xs ≡ ys = files_same regs xs ys left.1 right.1 (λ r i has. alike (suc r) i has) in
     λ j. here j ∷ rest j
-
--- a byte that is stored isn't 0
-byte_same : (x y : Option ℕ) → ((b : ℕ) → x ≡ Some b → 0 < b) → ((b : ℕ) → y ≡ Some b → 0 < b) → unwrap_or x 0 ≡ unwrap_or y 0 → x ≡ y
-byte_same None None f g e = refl
-byte_same None (Some b) f g e = absurd (some b (g b refl) e)
-  where
-    some : (n : ℕ) → 0 < n → 0 ≡ n → ⊥
-    some n h k = omega arith
-byte_same (Some a) None f g e = absurd (some a (f a refl) e)
-  where
-    some : (n : ℕ) → 0 < n → n ≡ 0 → ⊥
-    some n h k = omega arith
-byte_same (Some a) (Some b) f g e = ap Some e
-
--- nothing is stored above
-none_above : (space at : ℕ) (m : FinMap nat_cmp ℕ) → AreBytes space m → space ≤ at → get m at ≡ None
-none_above space at m kept above = of (get m at) refl
-  where
-    of : (o : Option ℕ) → get m at ≡ o → o ≡ None
-    of None e = refl
-    of (Some b) e = absurd (let below : at < space = (kept at b e).0 in omega arith)
-
-bytes_same : (space : ℕ) (m n : FinMap nat_cmp ℕ) → AreBytes space m → AreBytes space n → ((at : ℕ) → at < space → unwrap_or (get m at) 0 ≡ unwrap_or (get n at) 0) → m ≡ n
-bytes_same space m n g h alike = same_map nat_cmp_total nat_cmp-IsAntisymmetric m n (λ q. at q (nat_lt q space) refl)
-  where
-    at : (q : ℕ) (b : Bool) → nat_lt q space ≡ b → get m q ≡ get n q
-    at q true e = byte_same (get m q) (get n q) (λ b is. (g q b is).1) (λ b is. (h q b is).1) (alike q (grind (arith, nat_tests)))
-    at q false e =
-        let above : space ≤ q = grind (arith, nat_tests) in
-        none_above space q m g above ∙ sym (none_above space q n h above)
 
 pub same_states : (d : Parts) (s t : State) → IsState d s → IsState d t → ReadAlike d (reads_of d s) (reads_of d t) → s ≡ t
 same_states d s t g h alike =

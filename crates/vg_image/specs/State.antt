@@ -3,7 +3,7 @@ use Rattle.std.specs.Prelude.{◌≡◌, ℕ, zero, suc, ◌+◌, ◌/◌, ◌%�
 use Rattle.std.specs.Option.{option_map_or}
 use Rattle.std.specs.List.{list_all}
 use Rattle.std.specs.Ordering.{nat_cmp}
-use Rattle.std.specs.FinMap.{FinMap, empty, get, insert, remove}
+use Rattle.std.specs.FinMap.{FinMap, empty}
 use Rattle.vg_bits.specs.BitValue.{BitValue}
 use Rattle.vg_isa.specs.declared.isa.Parts.{Parts}
 use Rattle.vg_isa.specs.declared.instr.Instr.{Instr}
@@ -15,6 +15,7 @@ use Rattle.vg_isa.specs.Declaration.{register_width, register_count}
 use Rattle.vg_isa.specs.Typing.{fits}
 use Rattle.vg_isa.specs.Value.{Reads}
 use Rattle.vg_isa.specs.Effect.{effect_of, next_pc_of}
+use Rattle.vg_mem.specs.Bytes.{AreBytes, byte_in, laid, stored}
 use Rattle.vg_image.specs.declared.image.Image.{Image}
 
 -- A state has a program counter, for each declaration the numbers of its registers, and the bytes of memory that aren't
@@ -28,7 +29,7 @@ pub record State : Type 0 where
 
 -- the byte at an address
 abbrev pub byte_at : State → ℕ → ℕ
-byte_at s at = unwrap_or (get s.bytes at) 0
+byte_at s at = byte_in s.bytes at
 
 -- the register of a declaration that reads as 0 is this one
 abbrev pub is_zero_register : List RegDecl → ℕ → ℕ → Bool
@@ -51,20 +52,6 @@ reads_of d s = record {
 }
 
 -- ---- writing
-
--- a byte stored at an address; a 0 isn't kept
-abbrev pub put : FinMap nat_cmp ℕ → ℕ → ℕ → FinMap nat_cmp ℕ
-put m at byte = if nat_eq byte 0 then remove m at else insert m at byte
-
--- so many bytes of a number from an address on, the least significant first, the addresses modulo space
-abbrev pub stored : ℕ → ℕ → ℕ → ℕ → FinMap nat_cmp ℕ → FinMap nat_cmp ℕ
-stored space at zero n m = m
-stored space at (suc bytes) n m = put (stored space (at + 1) bytes (n / 256) m) (at % space) (n % 256)
-
--- bytes from an address on, laid over others
-abbrev pub laid : ℕ → List ℕ → FinMap nat_cmp ℕ → FinMap nat_cmp ℕ
-laid at [] m = m
-laid at (byte ∷ bytes) m = put (laid (at + 1) bytes m) at byte
 
 -- a write of the zero register does nothing
 abbrev pub register_written : Parts → ℕ → ℕ → ℕ → State → State
@@ -115,10 +102,6 @@ are_files [] [] = true
 are_files [] (numbers ∷ files) = false
 are_files (decl ∷ regs) [] = false
 are_files (decl ∷ regs) (numbers ∷ files) = is_file_of decl numbers && are_files regs files
-
--- bytes that aren't 0, at addresses below space
-abbrev pub AreBytes : ℕ → FinMap nat_cmp ℕ → Type 0
-AreBytes space m = (at byte : ℕ) → get m at ≡ Some byte → (at < space) × (0 < byte) × (byte < 256)
 
 -- What a state of a description keeps. Two that read alike are one (law `same_reads`).
 pub record IsState (d : Parts) (s : State) : Type 0 where

@@ -8,10 +8,7 @@ pub enum ImageFault {
     /// spelling goes on: one more than the number of lines where each line is right and more must follow.
     #[error("line {line} is not of an image for this description")]
     Line { line: usize },
-    /// The text has a line of data or of a symbol, which are not read yet. The line is the first of these.
-    #[error("line {line} has data or a symbol, which are not read yet")]
-    NotBuilt { line: usize },
-    /// There was no memory for the code words.
+    /// There was no memory for the image.
     #[error("out of memory")]
     OutOfMemory,
 }

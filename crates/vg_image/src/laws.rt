@@ -1,13 +1,25 @@
-//! Laws on states and runs.
-ghost use Rattle.std.specs.Prelude.{◌≡◌, ℕ, IsTrue};
+//! Laws on images, states and runs.
+ghost use Rattle.std.specs.Prelude.{◌≡◌, ◌++◌, ℕ, List, [], IsTrue};
 ghost use Rattle.vg_isa.specs.declared.isa.Parts.{Parts};
 ghost use Rattle.vg_isa.specs.Accepted.{is_isa};
 ghost use Rattle.vg_isa.specs.Value.{IsLawful, ReadAlike};
 ghost use Rattle.vg_image.specs.declared.image.Image.{Image};
-ghost use Rattle.vg_image.specs.Spelling.{IsImage};
+ghost use Rattle.vg_image.specs.Reading.{IsFaultLine, IsSpelled};
+ghost use Rattle.vg_image.specs.Spelling.{IsImage, spelling};
 ghost use Rattle.vg_image.specs.State.{IsState, State, first_state, reads_of};
 ghost use Rattle.vg_image.specs.Step.{Moved, step_of};
 ghost use Rattle.vg_image.specs.Run.{IsRun, Stand, after, run_of};
+
+/// Two images that one text spells are one image, and no spelling goes on as another.
+pub fn one_image()
+    ensures spelled { (d : Parts) (text : List ℕ) (i j : Image) → IsTrue (is_isa d) → IsSpelled d text i → IsSpelled d text j → i ≡ j }
+    ensures alone { (d : Parts) (i j : Image) (rest : List ℕ) → IsTrue (is_isa d) → IsImage d i → IsImage d j → spelling d i ++ rest ≡ spelling d j → rest ≡ [] }
+{}
+
+/// A text is refused at one line.
+pub fn one_line()
+    ensures { (d : Parts) (text : List ℕ) (l m : ℕ) → IsFaultLine d text l → IsFaultLine d text m → l ≡ m }
+{}
 
 /// The run that `IsRun` tells and the run as a function are one.
 pub fn one_run()

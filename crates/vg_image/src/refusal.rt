@@ -1,11 +1,11 @@
 use std::alloc::{AllocError, AllocFailed};
 
-/// Why a reader of lines gave nothing.
+/// Why a line adds nothing.
 #[derive(Clone, Copy, Debug, PartialEq, Eq)]
 pub enum Refusal {
     OutOfMemory,
-    /// The text is no spelling. This many of its bytes are left behind the lines that are right.
-    Left(usize),
+    /// No spelling goes on with the line.
+    Wrong,
 }
 
 impl From<AllocError> for Refusal {

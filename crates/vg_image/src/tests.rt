@@ -31,7 +31,7 @@ fn description(alloc: Global, word: u8, address: u8) -> Result<Isa, AllocError>
     Ok(Isa::new(parts))
 }
 
-/// A line of an image of two code words, at this place.
+/// A line of an image of two code words, 17 bytes of data and two symbols, at this place.
 fn usual_line(at: usize) -> &'static str {
     match at {
         0 => "image T\n",
@@ -42,6 +42,10 @@ fn usual_line(at: usize) -> &'static str {
         5 => "code 00500093\n",
         6 => "code 002081b3\n",
         7 => "data 0x00002000\n",
+        8 => "bytes 000102030405060708090a0b0c0d0eff\n",
+        9 => "bytes 5a\n",
+        10 => "symbol a.b+c 0x00001000\n",
+        11 => "symbol a.b+c 0xffffffff\n",
         _ => "end\n",
     }
 }
@@ -49,7 +53,7 @@ fn usual_line(at: usize) -> &'static str {
 /// The lines, with another text in place of the line at this place.
 fn with_line(alloc: Global, at: usize, line: &str) -> Result<Vec<u8>, AllocError> {
     let mut text = Vec::new(alloc);
-    for k in 0..9 {
+    for k in 0..13 {
         if k == at {
             text.extend_from_slice(line.as_bytes())?;
         } else {
@@ -59,51 +63,65 @@ fn with_line(alloc: Global, at: usize, line: &str) -> Result<Vec<u8>, AllocError
     Ok(text)
 }
 
-/// A place, the text in place of its line, and the line at which the whole is refused.
-fn wrong_line(case: usize) -> (usize, &'static str, usize) {
+/// A place up to the data, the text in place of its line, and the line at which the whole is refused.
+fn wrong_head(case: usize) -> (usize, &'static str, usize) {
     match case {
         0 => (0, "image U\n", 1),
-        1 => (1, "base 0x00001002\n", 2),
-        2 => (1, "base 0x1000\n", 2),
-        3 => (1, "base 0xfffffffc\n", 7),
-        4 => (2, "entry 0x0000100A\n", 3),
-        5 => (3, "stop 0x00001008", 4),
-        6 => (4, "", 5),
-        7 => (5, "code 0050009\n", 6),
-        8 => (8, "end", 10),
-        9 => (8, "en", 9),
-        10 => (8, "", 9),
-        _ => (8, "end\nend\n", 10),
+        1 => (0, "image T \n", 1),
+        2 => (1, "base 0x00001002\n", 2),
+        3 => (1, "base 0x1000\n", 2),
+        4 => (1, "base 0xfffffffc\n", 7),
+        5 => (2, "entry 0x0000100A\n", 3),
+        6 => (3, "stop 0x00001008", 4),
+        7 => (4, "", 5),
+        8 => (4, "full 0x00001008\r\n", 5),
+        9 => (5, "code 0050009\n", 6),
+        10 => (6, "code 002081B3\n", 7),
+        11 => (7, "", 8),
+        12 => (7, "data 0xfffffff0\n", 10),
+        _ => (7, "data 0xfffffff1\n", 9),
     }
 }
 
-/// The same for texts with data or symbols.
-fn unbuilt_line(case: usize) -> (usize, &'static str, usize) {
+/// The same from the data on.
+fn wrong_tail(case: usize) -> (usize, &'static str, usize) {
     match case {
-        0 => (7, "bytes 00\n", 8),
-        1 => (8, "symbol a 0x00001000\nend\n", 9),
-        _ => (7, "data 0x0002000\nbytes 00\n", 9),
+        0 => (8, "bytes 000102030405060708090a0b0c0d0e\n", 10),
+        1 => (8, "bytes 000102030405060708090a0b0c0d0e0f10\n", 9),
+        2 => (8, "bytes \n", 9),
+        3 => (9, "bytes 5\n", 10),
+        4 => (9, "bytes 5A\n", 10),
+        5 => (10, "symbol a:b 0x00001000\n", 11),
+        6 => (10, "symbol  0x00001000\n", 11),
+        7 => (10, "symbol a b 0x00001000\n", 11),
+        8 => (10, "symbol a 0x0001000\n", 11),
+        9 => (11, "bytes 00\n", 12),
+        10 => (12, "end", 14),
+        11 => (12, "en", 13),
+        12 => (12, "", 13),
+        13 => (12, "end\n\n", 14),
+        _ => (12, "end\nend", 14),
     }
+}
+
+/// Why a text gives no image.
+fn refusal(alloc: Global, isa: &Isa, text: &[u8]) -> Option<ImageFault> {
+    read(alloc, isa, text).err()
 }
 
 #[test]
 fn refusals(rt: HostRuntime) -> Result<(), Fail> {
     let isa = description(rt.alloc(), 32, 32)?;
-    for case in 0..12 {
-        let (at, text, line) = wrong_line(case);
+    for case in 0..29 {
+        let (at, text, line) = if case < 14 {
+            wrong_head(case)
+        } else {
+            wrong_tail(case - 14)
+        };
         let text = with_line(rt.alloc(), at, text)?;
         assert_eq!(rt;
             refusal(rt.alloc(), &isa, text.as_slice()),
             Some(ImageFault::Line { line }),
-            "case {case}"
-        );
-    }
-    for case in 0..3 {
-        let (at, text, line) = unbuilt_line(case);
-        let text = with_line(rt.alloc(), at, text)?;
-        assert_eq!(rt;
-            refusal(rt.alloc(), &isa, text.as_slice()),
-            Some(ImageFault::NotBuilt { line }),
             "case {case}"
         );
     }
@@ -114,15 +132,41 @@ fn refusals(rt: HostRuntime) -> Result<(), Fail> {
     Ok(())
 }
 
-/// Why a text gives no image.
-fn refusal(alloc: Global, isa: &Isa, text: &[u8]) -> Option<ImageFault> {
-    read(alloc, isa, text).err()
+/// The line at which a text is refused of which so many bytes are left, where a part of a line is no line.
+fn cut_line(text: &[u8], left: usize) -> usize {
+    let mut line: usize = 1;
+    for byte in text.iter().take(left) {
+        if *byte == b'\n' {
+            line = line.saturating_add(1);
+        }
+    }
+    // A line that lacks its line feed alone is right.
+    match text.get(left) {
+        Some(b'\n') => line.saturating_add(1),
+        _ => line,
+    }
+}
+
+#[test]
+fn cuts(rt: HostRuntime) -> Result<(), Fail> {
+    let isa = description(rt.alloc(), 32, 32)?;
+    let text = with_line(rt.alloc(), 8, "")?;
+    for left in 0..text.len() {
+        let (cut, _) = text.as_slice().split_at(left);
+        let line = cut_line(text.as_slice(), left);
+        assert_eq!(rt;
+            refusal(rt.alloc(), &isa, cut),
+            Some(ImageFault::Line { line }),
+            "{left} bytes"
+        );
+    }
+    Ok(())
 }
 
 #[test]
 fn images(rt: HostRuntime) -> Result<(), Fail> {
     let isa = description(rt.alloc(), 32, 32)?;
-    let text = with_line(rt.alloc(), 9, "")?;
+    let text = with_line(rt.alloc(), 13, "")?;
     let image = read(rt.alloc(), &isa, text.as_slice())?;
     assert_eq!(rt; image.base, 0x1000);
     assert_eq!(rt; image.entry, 0x1000);
@@ -130,43 +174,83 @@ fn images(rt: HostRuntime) -> Result<(), Fail> {
     assert_eq!(rt; image.full, 0x1008);
     assert_eq!(rt; image.data_base, 0x2000);
     assert_eq!(rt; image.code.as_slice(), [0x00500093, 0x002081b3].as_slice());
-    assert!(rt; image.bytes.is_empty() && image.symbols.is_empty());
+    assert_eq!(rt; image.bytes.len(), 17);
+    assert_eq!(rt; image.bytes.get(15), Some(&0xff));
+    assert_eq!(rt; image.bytes.get(16), Some(&0x5a));
+    assert_eq!(rt; image.symbols.len(), 2);
+    let symbol = image.symbols.get(1).ok_or("a symbol")?;
+    assert_eq!(rt; symbol.name.as_slice(), b"a.b+c".as_slice());
+    assert_eq!(rt; symbol.at, 0xffffffff);
+    let written = write(rt.alloc(), &isa, &image)?;
+    assert_eq!(rt; written.as_slice(), text.as_slice());
     Ok(())
 }
 
-/// A line of an image whose code begins at the last multiple of 4.
-fn top_line(at: usize) -> &'static str {
-    match at {
-        0 => "image T\n",
-        1 => "base 0xfffffffffffffffc\n",
-        2 => "entry 0x0000000000000000\n",
-        3 => "stop 0x0000000000000000\n",
-        _ => "full 0x0000000000000000\n",
+/// The bits of words and of addresses, and an image whose code and data end with the address space.
+fn at_the_end(case: usize) -> (u8, u8, &'static str) {
+    match case {
+        0 => (
+            16,
+            16,
+            "image T\nbase 0xfffe\nentry 0xfffe\nstop 0x0000\nfull 0x0000\ncode 0013\ndata 0xffff\nbytes a5\nend\n",
+        ),
+        1 => (
+            64,
+            32,
+            "image T\nbase 0xfffffff8\nentry 0x00000000\nstop 0x00000000\nfull 0x00000000\ncode 0123456789abcdef\ndata 0xffffffff\nbytes a5\nend\n",
+        ),
+        2 => (
+            32,
+            64,
+            "image T\nbase 0xfffffffffffffffc\nentry 0x0000000000000000\nstop 0x0000000000000000\nfull 0x0000000000000000\ncode 00000013\ndata 0xffffffffffffffff\nbytes a5\nend\n",
+        ),
+        _ => (
+            64,
+            64,
+            "image T\nbase 0x0000000000000000\nentry 0x0000000000000000\nstop 0x0000000000000000\nfull 0x0000000000000000\ncode ffffffffffffffff\ndata 0x0000000000000000\nbytes a5\nend\n",
+        ),
     }
 }
 
-/// An image of so many code words there, for words of 16 bits and addresses of 64.
-fn at_the_top(alloc: Global, words: usize) -> Result<Vec<u8>, AllocError> {
+#[test]
+fn ends_of_the_address_space(rt: HostRuntime) -> Result<(), Fail> {
+    for case in 0..4 {
+        let (word, address, text) = at_the_end(case);
+        let isa = description(rt.alloc(), word, address)?;
+        let image = read(rt.alloc(), &isa, text.as_bytes())?;
+        assert_eq!(rt; image.code.len(), 1);
+        assert_eq!(rt; image.bytes.as_slice(), [0xa5].as_slice());
+        let written = write(rt.alloc(), &isa, &image)?;
+        assert_eq!(rt; written.as_slice(), text.as_bytes());
+    }
+    Ok(())
+}
+
+/// An image of 8 MiB at most, as large as lines of 16 bytes allow.
+fn large(alloc: Global) -> Result<Vec<u8>, AllocError> {
     let mut text = Vec::new(alloc);
-    for at in 0..5 {
-        text.extend_from_slice(top_line(at).as_bytes())?;
+    for k in 0..8 {
+        text.extend_from_slice(usual_line(k).as_bytes())?;
     }
-    for _ in 0..words {
-        text.extend_from_slice(b"code 0013\n")?;
+    for _ in 0..215_089 {
+        text.extend_from_slice(usual_line(8).as_bytes())?;
     }
-    text.extend_from_slice(b"data 0x0000000000000000\nend\n")?;
+    text.extend_from_slice(b"end\n")?;
     Ok(text)
 }
 
 #[test]
-fn code_at_the_top_of_64_bits(rt: HostRuntime) -> Result<(), Fail> {
-    let isa = description(rt.alloc(), 16, 64)?;
-    let fits = at_the_top(rt.alloc(), 2)?;
-    assert_eq!(rt; refusal(rt.alloc(), &isa, fits.as_slice()), None);
-    let passes = at_the_top(rt.alloc(), 3)?;
-    assert_eq!(rt;
-        refusal(rt.alloc(), &isa, passes.as_slice()),
-        Some(ImageFault::Line { line: 8 })
+fn eight_mebibytes(rt: HostRuntime) -> Result<(), Fail> {
+    let isa = description(rt.alloc(), 32, 32)?;
+    let text = large(rt.alloc())?;
+    assert!(rt;
+        text.len() <= 8 << 20 && text.len() + 40 > 8 << 20,
+        "{} bytes",
+        text.len()
     );
+    let image = read(rt.alloc(), &isa, text.as_slice())?;
+    assert_eq!(rt; image.bytes.len(), 16 * 215_089);
+    let written = write(rt.alloc(), &isa, &image)?;
+    assert!(rt; written.as_slice() == text.as_slice());
     Ok(())
 }

@@ -1,0 +1,4 @@
+pub mod Found
+pub mod Narrowed
+pub mod Shared
+pub mod FirstPair

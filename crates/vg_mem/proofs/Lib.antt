@@ -1,0 +1,10 @@
+pub mod Bytes
+pub mod Zeros
+pub mod PageLemmas
+pub mod Growth
+pub mod Loads
+pub mod Writes
+pub mod Rooms
+pub mod Scans
+pub mod Wraps
+pub mod Stores

@@ -1,0 +1,4 @@
+use Rattle.vg_mem.proofs.page.Page.+read_each.Given as goal
+
+abbrev pub decreases-read_each : goal.decreases-read_each
+decreases-read_each l = l.bytes

@@ -1,0 +1,4 @@
+pub mod Breach
+pub mod Fault
+pub mod Order
+pub mod Rule
