@@ -1,12 +1,11 @@
 -- The first two candidates that share a word.
-use Rattle.std.proofs.Common.{◌≡◌, ◌≢◌, ℕ, zero, suc, ◌+◌, ◌<◌, ◌≤◌, ◌^◌, ◌⊎◌, Bool, true, false, nat_eq, List, [], ◌∷◌, slice_get, Option, Some, None, arith, refl, sym, ap, ◌∙◌, subst, inl, inr}
+use Rattle.std.proofs.Common.{◌≡◌, ℕ, zero, suc, ◌+◌, ◌<◌, ◌≤◌, ◌^◌, ◌⊎◌, true, List, [], ◌∷◌, Option, Some, None, arith, refl, sym, ap, ◌∙◌, subst, inl, inr}
 use Rattle.std.specs.Option.{option_map_or, option_or}
 use Rattle.std.proofs.lemmas.Bool.{cases_order}
 use Rattle.vg_isa.specs.declared.isa.Parts.{Parts}
 use Rattle.vg_isa.specs.declared.instr.Instr.{Instr}
-use Rattle.vg_format.specs.declared.pattern.Pattern.{Pattern}
 use Rattle.vg_format.specs.Matching.{matches_at, IsUnambiguous}
-use Rattle.vg_format.specs.Pattern.{IsPatternOf, fits}
+use Rattle.vg_format.specs.Pattern.{fits}
 use Rattle.vg_decode.specs.declared.candidate.Candidate.{Candidate}
 use Rattle.vg_decode.specs.declared.pairs.Pair.{Pair}
 use Rattle.vg_decode.specs.Candidates.{AreOf}

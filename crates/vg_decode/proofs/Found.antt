@@ -1,14 +1,14 @@
 -- Searching along the candidates of a description.
-use Rattle.std.proofs.Common.{◌≡◌, ℕ, zero, suc, ◌+◌, ◌<◌, ◌≤◌, ◌^◌, Bool, true, false, not, cond, IsTrue, nat_eq, nat_lt, bit_and, List, [], ◌∷◌, ◌++◌, length, slice_get, Option, Some, None, arith, refl, sym, ap, ◌∙◌, subst, if◌then◌else◌}
+use Rattle.std.proofs.Common.{◌≡◌, ℕ, zero, suc, ◌+◌, ◌≤◌, Bool, true, false, not, cond, IsTrue, nat_lt, List, [], ◌∷◌, ◌++◌, length, slice_get, Option, Some, None, arith, refl, sym, ap, ◌∙◌, if◌then◌else◌}
 use Rattle.std.specs.List.{position_or_len}
 use Rattle.std.specs.Option.{option_map_or}
 use Rattle.std.proofs.lemmas.Bool.Decides.{nat_tests}
 use Rattle.vg_isa.specs.declared.isa.Parts.{Parts}
 use Rattle.vg_isa.specs.declared.instr.Instr.{Instr}
-use Rattle.vg_isa.specs.Accepted.{is_isa, is_within_limits}
+use Rattle.vg_isa.specs.Accepted.{is_isa}
 use Rattle.vg_isa.proofs.Kept.{kept}
 use Rattle.vg_isa.proofs.Tests.{both, true-nat_le}
-use Rattle.vg_format.specs.Matching.{matches, matches_at, decoded}
+use Rattle.vg_format.specs.Matching.{matches, decoded}
 use Rattle.vg_format.specs.Pattern.{IsPatternOf, fits}
 use Rattle.vg_decode.specs.declared.candidate.Candidate.{Candidate}
 use Rattle.vg_decode.specs.Candidates.{AreOf}

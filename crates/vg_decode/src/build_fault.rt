@@ -8,11 +8,7 @@ use vg_isa::InstrId;
 pub enum BuildFault {
     /// A word matches two instructions: the first such pair in the order of the text, and its least such word.
     #[error("a word matches two instructions")]
-    Overlap {
-        a: InstrId,
-        b: InstrId,
-        word: Bits,
-    },
+    Overlap { a: InstrId, b: InstrId, word: Bits },
     /// There was no memory for the decoder.
     #[error("out of memory")]
     OutOfMemory,

@@ -26,11 +26,7 @@ pub(crate) fn may_have(candidate: &Candidate, mask: u64) -> bool
 }
 
 /// The candidates that a word without a bit of the mask may fit.
-fn lacking(
-    alloc: Global,
-    candidates: &[Candidate],
-    mask: u64,
-) -> Result<Vec<Candidate>, AllocError>
+fn lacking(alloc: Global, candidates: &[Candidate], mask: u64) -> Result<Vec<Candidate>, AllocError>
     ensures { IfOk result (λ v. v.items ≡ filter (may_lack mask) candidates.now) }
 {
     candidates
@@ -41,11 +37,7 @@ fn lacking(
 }
 
 /// The candidates that a word with a bit of the mask may fit.
-fn having(
-    alloc: Global,
-    candidates: &[Candidate],
-    mask: u64,
-) -> Result<Vec<Candidate>, AllocError>
+fn having(alloc: Global, candidates: &[Candidate], mask: u64) -> Result<Vec<Candidate>, AllocError>
     ensures { IfOk result (λ v. v.items ≡ filter (may_have mask) candidates.now) }
 {
     candidates
@@ -58,11 +50,7 @@ fn having(
 /// The tree of candidates, of at most so many levels of tests.
 ///
 /// It finds what a search along the list finds, whichever bits are tested.
-pub(crate) fn grow(
-    alloc: Global,
-    candidates: &[Candidate],
-    levels: u8,
-) -> Result<Tree, AllocError>
+pub(crate) fn grow(alloc: Global, candidates: &[Candidate], levels: u8) -> Result<Tree, AllocError>
     ensures { IfOk result (λ tree. (word : ℕ) → found_in tree word ≡ first_fit candidates.now word) }
 {
     if levels == 0 {

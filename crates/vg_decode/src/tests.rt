@@ -36,10 +36,7 @@ fn depth(tree: &Tree) -> u64 {
 }
 
 /// Candidates with these patterns, given by mask and value.
-fn with_patterns(
-    alloc: Global,
-    patterns: &[(u64, u64)],
-) -> Result<Vec<Candidate>, AllocError> {
+fn with_patterns(alloc: Global, patterns: &[(u64, u64)]) -> Result<Vec<Candidate>, AllocError> {
     let mut candidates = Vec::new(alloc);
     for (k, (mask, value)) in (0u32..).zip(patterns) {
         candidates.push(Candidate {
@@ -178,7 +175,10 @@ fn one_shared_word(rt: HostRuntime) -> Result<(), Fail> {
 
 #[test]
 fn three_and_no_bit_fixed_by_all(rt: HostRuntime) -> Result<(), Fail> {
-    let candidates = with_patterns(rt.alloc(), &[(0b011, 0b001), (0b110, 0b010), (0b101, 0b100)])?;
+    let candidates = with_patterns(
+        rt.alloc(),
+        &[(0b011, 0b001), (0b110, 0b010), (0b101, 0b100)],
+    )?;
     assert!(rt; first_pair(candidates.as_slice()).is_none());
     let tree = grow(rt.alloc(), candidates.as_slice(), 64)?;
     assert_eq!(rt; find_in(&tree, 0b101), Some(InstrId(0)));
@@ -255,8 +255,7 @@ fn branches(alloc: Global) -> Result<Format, AllocError>
     ensures covered { IfOk result (λ f. IsTrue (is_format 32 f)) }
     ensures first { IfOk result (λ f. option_map_or (λ (x : Field). x.ranges) (slice_get f.fields 0) [] ≡ (31, 31) ∷ (7, 7) ∷ (30, 25) ∷ (11, 8) ∷ []) }
 {
-    let fields = vec![
-        in alloc;
+    let fields = vec![in alloc;
         declared(alloc, &[(31, 31), (7, 7), (30, 25), (11, 8)])?,
         declared(alloc, &[(24, 20)])?,
         declared(alloc, &[(19, 15)])?,

@@ -1,8 +1,6 @@
-use Rattle.std.proofs.Common.{◌≡◌, ℕ, ◌<◌, ◌^◌, Some, None, ap, ◌∙◌, sym, subst}
+use Rattle.std.proofs.Common.{◌≡◌, ◌<◌, ◌^◌, Some, None, ap, ◌∙◌, sym, subst}
 use Rattle.vg_bits.specs.BitValue.{BitValue}
-use Rattle.vg_format.specs.Matching.{decoded}
-use Rattle.vg_decode.specs.Candidates.{AreOf}
-use Rattle.vg_decode.specs.Decoding.{first_fit, finds, found_in}
+use Rattle.vg_decode.specs.Decoding.{first_fit, finds}
 use Rattle.vg_decode.specs.Overlap.{IsFirstOverlap}
 use Rattle.vg_decode.specs.Pairs.{first_pair}
 use Rattle.vg_decode.proofs.Found.{first_found}
@@ -19,7 +17,7 @@ pub returns-in-Some : goal.returns-in-Some
 returns-in-Some c =
     let found : first_pair c.in_ok-candidates.candidates.items ≡ Some c.in-Some.pair = ap first_pair (sym c.as_slice.ensures.value) ∙ sym c.first_pair.ensures ∙ c.in-Some.is in
     let overlap : IsFirstOverlap c.args.isa.now c.in-Some.pair.a.0 c.in-Some.pair.b.0 c.in-Some.pair.word
-        = pair_is_overlap c.args.isa.now c.in_ok-candidates.candidates.items c.in_ok-candidates.ensures c.in-Some.pair found in
+    = pair_is_overlap c.args.isa.now c.in_ok-candidates.candidates.items c.in_ok-candidates.ensures c.in-Some.pair found in
     let number : c.of.result.number ≡ c.in-Some.pair.word = ap (λ (v : BitValue). v.number) c.of.ensures ∙ c.from.ensures in
     (ap (λ (v : BitValue). v.width) c.of.ensures ∙ c.word.ensures.value, subst (IsFirstOverlap c.args.isa.now c.in-Some.pair.a.0 c.in-Some.pair.b.0) (sym number) overlap)
 

@@ -1,7 +1,7 @@
-use Rattle.std.proofs.Common.{◌≡◌, ap, ◌∙◌, sym, subst, ℕ, Option}
+use Rattle.std.proofs.Common.{◌≡◌, ap, ◌∙◌, sym, subst}
 use Rattle.std.specs.Option.{option_map}
 use Rattle.vg_isa.specs.declared.ids.InstrId.{InstrId}
-use Rattle.vg_format.specs.Matching.{Decodes, decoded}
+use Rattle.vg_format.specs.Matching.{Decodes}
 use Rattle.vg_format.proofs.First.{first_decodes}
 use Rattle.vg_decode.specs.Decoding.{finds, found_in}
 use Rattle.vg_decode.proofs.decoder.Decoder.find.Goals as goal

@@ -1,0 +1,12 @@
+pub mod Gets
+pub mod RetargetLemmas
+pub mod WholeLemmas
+pub mod ReplaceLemmas
+pub mod LevelLemmas
+pub mod TreeLemmas
+pub mod StoreLemmas
+pub mod ExactLemmas
+pub mod EdgeLemmas
+pub mod SameLemmas
+pub mod TableLemmas
+pub mod Walking

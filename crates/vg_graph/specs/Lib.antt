@@ -1,0 +1,11 @@
+pub mod Node
+pub mod Tree
+pub mod Graph
+pub mod Replaced
+pub mod Alike
+pub mod Hashing
+pub mod Same
+pub mod Table
+pub mod Store
+pub mod Whole
+pub mod Walk

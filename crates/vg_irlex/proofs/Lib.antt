@@ -1,0 +1,6 @@
+pub mod Lists
+pub mod Longest
+pub mod Spelled
+pub mod Found
+pub mod Once
+pub mod Rows

@@ -1,0 +1,6 @@
+pub mod Steps
+pub mod Placed
+pub mod Escapes
+pub mod Fields
+pub mod TypesComplete
+pub mod TypesSound

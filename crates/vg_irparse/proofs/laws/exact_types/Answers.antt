@@ -1,0 +1,10 @@
+-- By the trees of types.
+use Rattle.vg_irparse.proofs.TypesComplete.{type_complete}
+use Rattle.vg_irparse.proofs.TypesSound.{type_sound}
+use Rattle.vg_irparse.proofs.laws.exact_types.Goals as goal
+
+pub returns-clause-sound : goal.returns-clause-sound
+returns-clause-sound c = type_sound
+
+pub returns-clause-complete : goal.returns-clause-complete
+returns-clause-complete c = type_complete
