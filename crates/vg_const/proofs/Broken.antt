@@ -1,65 +1,80 @@
 -- Which rule is broken first, by the first place of each.
-use Rattle.std.proofs.Common.{◌≡◌, ◌⊎◌, inl, inr, ℕ, List, [], ◌∷◌, Option, Some, None, refl, sym, ap, ◌∙◌}
+use Rattle.std.proofs.Common.{◌≡◌, ℕ, List, [], ◌∷◌, Option, Some, None, refl, ◌∙◌}
+use Rattle.vg_rule.specs.declared.breach.Breach.{Breach}
+use Rattle.vg_rule.specs.declared.rule.Rule.{Rule}
+use Rattle.vg_rule.specs.declared.rule.Rule.TheVariants as rules
+use Rattle.vg_rule.specs.Breach.{first_breach}
+use Rattle.vg_rule.proofs.Asking.{broken_here, kept_here}
 use Rattle.vg_ast.specs.declared.desc.Desc.{Desc}
 use Rattle.vg_names.specs.First.{first_of}
-use Rattle.vg_const.specs.declared.fault.DescFault.{DescFault}
-use Rattle.vg_const.specs.declared.fault.DescFault.TheVariants as faults
-use Rattle.vg_const.specs.declared.rule.Rule.{Rule}
-use Rattle.vg_const.specs.declared.rule.Rule.TheVariants as rules
-use Rattle.vg_const.specs.Rules.{places_of, fault_or, broken, IsAccepted, Breaks}
+use Rattle.vg_inline.specs.Rules.{places_of, breach_of, IsAccepted, Breaks}
 
 -- without a first place there is none
 pub nothing_first : (places : List ℕ) → first_of places ≡ None → places ≡ []
 nothing_first [] e = refl
 nothing_first (at ∷ more) e = absurd (cc)
 
-abbrev by_places : Option ℕ → Option ℕ → Option ℕ → Option ℕ → Option ℕ → Option DescFault
-by_places a b c e l = fault_or rules.Duplicate a (fault_or rules.Unknown b (fault_or rules.Cyclic c (fault_or rules.Overflow e (fault_or rules.Limit l None))))
+something_first : (places : List ℕ) (at : ℕ) → first_of places ≡ Some at → (more : List ℕ) × (places ≡ at ∷ more)
+something_first [] at e = absurd (cc)
+something_first (n ∷ more) at e = (more, cc)
+
+-- the rules from one on, in their order
+abbrev from_limit : List Rule
+from_limit = rules.Limit ∷ []
+
+abbrev from_overflow : List Rule
+from_overflow = rules.Overflow ∷ from_limit
+
+abbrev from_cyclic : List Rule
+from_cyclic = rules.Cyclic ∷ from_overflow
+
+abbrev from_unknown : List Rule
+from_unknown = rules.Unknown ∷ from_cyclic
 
 module _ (d : Desc) where
   abbrev at : Rule → Option ℕ
-  at rule = first_of (places_of rule d)
+  at rule = first_of (places_of d rule)
 
-  pub duplicate : (n : ℕ) → at rules.Duplicate ≡ Some n → Breaks d (faults.Duplicate n)
-  unfolding broken
-  duplicate n e = ap (λ (o : Option ℕ). by_places o (at rules.Unknown) (at rules.Cyclic) (at rules.Overflow) (at rules.Limit)) e
+  -- a rule with a first place is broken first where it is asked
+  here : (rule : Rule) (others : List Rule) (n : ℕ) → at rule ≡ Some n → first_breach (places_of d) (rule ∷ others) ≡ Some (record { rule = rule; at = n })
+  here rule others n e = let some = something_first (places_of d rule) n e in broken_here (places_of d) rule others n some.0 some.1
+
+  -- and one without leaves the others
+  past : (rule : Rule) (others : List Rule) → at rule ≡ None → first_breach (places_of d) (rule ∷ others) ≡ first_breach (places_of d) others
+  past rule others e = kept_here (places_of d) rule others (nothing_first (places_of d rule) e)
+
+  pub duplicate : (n : ℕ) → at rules.Duplicate ≡ Some n → Breaks d (record { rule = rules.Duplicate; at = n })
+  unfolding breach_of
+  duplicate n e = here rules.Duplicate from_unknown n e
 
   module _ (no_duplicate : at rules.Duplicate ≡ None) where
-    pub unknown : (n : ℕ) → at rules.Unknown ≡ Some n → Breaks d (faults.Unknown n)
-    unfolding broken
-    unknown n e =
-        ap (λ (o : Option ℕ). by_places o (at rules.Unknown) (at rules.Cyclic) (at rules.Overflow) (at rules.Limit)) no_duplicate
-        ∙ ap (λ (o : Option ℕ). by_places None o (at rules.Cyclic) (at rules.Overflow) (at rules.Limit)) e
+    behind_duplicate : breach_of d ≡ first_breach (places_of d) from_unknown
+    unfolding breach_of
+    behind_duplicate = past rules.Duplicate from_unknown no_duplicate
+
+    pub unknown : (n : ℕ) → at rules.Unknown ≡ Some n → Breaks d (record { rule = rules.Unknown; at = n })
+    unknown n e = behind_duplicate ∙ here rules.Unknown from_cyclic n e
 
     module _ (no_unknown : at rules.Unknown ≡ None) where
-      pub cyclic : (n : ℕ) → at rules.Cyclic ≡ Some n → Breaks d (faults.Cyclic n)
-      unfolding broken
-      cyclic n e =
-          ap (λ (o : Option ℕ). by_places o (at rules.Unknown) (at rules.Cyclic) (at rules.Overflow) (at rules.Limit)) no_duplicate
-          ∙ ap (λ (o : Option ℕ). by_places None o (at rules.Cyclic) (at rules.Overflow) (at rules.Limit)) no_unknown
-          ∙ ap (λ (o : Option ℕ). by_places None None o (at rules.Overflow) (at rules.Limit)) e
+      behind_unknown : breach_of d ≡ first_breach (places_of d) from_cyclic
+      behind_unknown = behind_duplicate ∙ past rules.Unknown from_cyclic no_unknown
+
+      pub cyclic : (n : ℕ) → at rules.Cyclic ≡ Some n → Breaks d (record { rule = rules.Cyclic; at = n })
+      cyclic n e = behind_unknown ∙ here rules.Cyclic from_overflow n e
 
       module _ (no_cycle : at rules.Cyclic ≡ None) where
-        pub overflow : (n : ℕ) → at rules.Overflow ≡ Some n → Breaks d (faults.Overflow n)
-        unfolding broken
-        overflow n e =
-            ap (λ (o : Option ℕ). by_places o (at rules.Unknown) (at rules.Cyclic) (at rules.Overflow) (at rules.Limit)) no_duplicate
-            ∙ ap (λ (o : Option ℕ). by_places None o (at rules.Cyclic) (at rules.Overflow) (at rules.Limit)) no_unknown
-            ∙ ap (λ (o : Option ℕ). by_places None None o (at rules.Overflow) (at rules.Limit)) no_cycle
-            ∙ ap (λ (o : Option ℕ). by_places None None None o (at rules.Limit)) e
+        behind_cyclic : breach_of d ≡ first_breach (places_of d) from_overflow
+        behind_cyclic = behind_unknown ∙ past rules.Cyclic from_overflow no_cycle
+
+        pub overflow : (n : ℕ) → at rules.Overflow ≡ Some n → Breaks d (record { rule = rules.Overflow; at = n })
+        overflow n e = behind_cyclic ∙ here rules.Overflow from_limit n e
 
         module _ (no_overflow : at rules.Overflow ≡ None) where
-          last : (l : Option ℕ) → at rules.Limit ≡ l → broken d ≡ by_places None None None None l
-          unfolding broken
-          last l e =
-              ap (λ (o : Option ℕ). by_places o (at rules.Unknown) (at rules.Cyclic) (at rules.Overflow) (at rules.Limit)) no_duplicate
-              ∙ ap (λ (o : Option ℕ). by_places None o (at rules.Cyclic) (at rules.Overflow) (at rules.Limit)) no_unknown
-              ∙ ap (λ (o : Option ℕ). by_places None None o (at rules.Overflow) (at rules.Limit)) no_cycle
-              ∙ ap (λ (o : Option ℕ). by_places None None None o (at rules.Limit)) no_overflow
-              ∙ ap (λ (o : Option ℕ). by_places None None None None o) e
+          behind_overflow : breach_of d ≡ first_breach (places_of d) from_limit
+          behind_overflow = behind_cyclic ∙ past rules.Overflow from_limit no_overflow
 
-          pub limit : (n : ℕ) → at rules.Limit ≡ Some n → Breaks d (faults.Limit n)
-          limit n e = last (Some n) e
+          pub limit : (n : ℕ) → at rules.Limit ≡ Some n → Breaks d (record { rule = rules.Limit; at = n })
+          limit n e = behind_overflow ∙ here rules.Limit [] n e
 
           pub accepted : at rules.Limit ≡ None → IsAccepted d
-          accepted e = last None e
+          accepted e = behind_overflow ∙ past rules.Limit [] e

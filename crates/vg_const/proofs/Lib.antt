@@ -1,5 +1,4 @@
-mod Cycles
-mod Circles
 mod Broken
+mod Circles
+mod Cycles
 mod Made
-pub mod OneAnswer

@@ -10,18 +10,20 @@ ghost use Rattle.vg_inline.specs.Inline.{bodies_of};
 ghost use Rattle.vg_inline.specs.Kept.{keeping};
 ghost use Rattle.vg_inline.specs.Context.{aliases_by, bodies_by};
 ghost use Rattle.vg_inline.specs.InPlace.{excesses};
-ghost use Rattle.vg_const.specs.declared.fault.DescFault.{DescFault as TheFault};
 ghost use Rattle.vg_names.specs.Cycle.{cycles};
-ghost use Rattle.vg_const.specs.Rules.{IsAccepted, IsFolded, Breaks};
+ghost use Rattle.vg_inline.specs.Rules.{IsAccepted, IsFolded, Breaks, breach_of};
+ghost use Rattle.vg_rule.specs.declared.breach.Breach.{Breach as TheBreach};
+ghost use Rattle.vg_rule.specs.Fault.{Tells, told_by};
 
-use crate::fault::DescFault;
-use crate::plain::Plain;
 use sqlite_items::Items;
 use std::alloc::{AllocError, Global};
 use vg_ast::{Desc, Item};
-use vg_inline::{Context, Declared, Kept, first_excess, work_out_aliases, work_out_bodies};
+use vg_inline::{
+    Context, Declared, Kept, Plain, counts, first_excess, work_out_aliases, work_out_bodies,
+};
 use vg_names::{Order, Table, order_of};
 use vg_resolve::{first_duplicate, first_unknown};
+use vg_rule::DescFault;
 use vg_whole::{Worth, first_overflow, worths};
 
 /// An order of what is put in place of its name, or the place of the name of the first that uses itself.
@@ -66,6 +68,7 @@ fn excess(
         worths,
         aliases,
         bodies,
+        keep: counts(),
         parameters: &[],
     };
     first_excess(alloc, &context)
@@ -75,12 +78,13 @@ fn excess(
 fn known(
     alloc: Global,
     d: &Desc,
-) -> Result<(Items<Worth>, Items<Declared>, Items<Option<Kept>>), DescFault>
+) -> Result<(Items<Worth>, Items<Declared>, Items<Option<Kept>>, Items<usize>), DescFault>
     ensures accepted { IfOk result (λ _. IsAccepted d.now) }
     ensures constants { IfOk result (λ it. constants_by d.now.items it.0 ≡ constants_of d.now.items) }
     ensures aliases { IfOk result (λ it. aliases_by d.now.items it.1 ≡ aliases_of d.now.items (constants_of d.now.items)) }
     ensures bodies { IfOk result (λ it. bodies_by d.now.items it.2 ≡ bodies_of keeping d.now.items (constants_of d.now.items) (aliases_of d.now.items (constants_of d.now.items))) }
-    ensures fault { IfErr result (λ f. (f ≡ DescFault.OutOfMemory) ⊎ Breaks d.now f) }
+    ensures order { IfOk result (λ it. IsOrder d.now.items it.3) }
+    ensures fault { IfErr result (λ f. Tells (breach_of d.now) f) }
 {
     if let Some(at) = first_duplicate(alloc, d)? {
         return Err(DescFault::Duplicate { at });
@@ -117,25 +121,26 @@ fn known(
     if let Some(at) = excess {
         return Err(DescFault::Limit { at });
     }
-    Ok((worths, aliases, bodies))
+    Ok((worths, aliases, bodies, order))
 }
 
 /// Folds a description, or tells the first rule of names, constants and sizes that it breaks.
 pub fn fold(alloc: Global, d: Desc) -> Result<Plain, DescFault>
     // What is answered is so.
     ensures plain { IfOk result (λ plain. IsFolded d plain) }
-    ensures fault { IfErr result (λ f. (f ≡ DescFault.OutOfMemory) ⊎ Breaks d f) }
+    ensures fault { IfErr result (λ f. Tells (breach_of d) f) }
 
     // A description that keeps the rules is folded, and one that breaks a rule is refused by it, unless memory runs out.
     ensures accepts { IsAccepted d → IfErr result (λ f. f ≡ DescFault.OutOfMemory) }
-    ensures refuses { (fault : TheFault) → Breaks d fault
-        → IsErrAnd result (λ f. (f ≡ DescFault.OutOfMemory) ⊎ (f ≡ fault)) }
+    ensures refuses { (breach : TheBreach) → Breaks d breach
+        → IsErrAnd result (λ f. (f ≡ DescFault.OutOfMemory) ⊎ (told_by f ≡ Some breach)) }
 {
-    let (worths, aliases, bodies) = known(alloc, &d)?;
+    let (worths, aliases, bodies, order) = known(alloc, &d)?;
     Ok(Plain {
         description: d,
         worths,
         aliases,
         bodies,
+        order,
     })
 }

@@ -5,7 +5,9 @@ use Rattle.std.proofs.lemmas.List.Folds.{list_all-append}
 use Rattle.vg_form.specs.declared.form.Pair.{Pair}
 use Rattle.vg_form.specs.Form.{fits_fields}
 use Rattle.vg_form.specs.Description.{Found, found, Doing, Values, ◌>>=◌, pair_of, pairs_behind, pairs_of}
-use Rattle.vg_form.specs.declared.doing.Doing.{Doing as DoingOf}
+use Rattle.std.specs.Borrow.{Bor}
+use Rattle.vg_ast.specs.declared.item.Item.{Item}
+use Rattle.vg_inline.specs.declared.context.Context.{Context}
 use Rattle.vg_form.specs.Given.{all_doing}
 
 -- the pairs go on behind a pair that is found
@@ -22,6 +24,6 @@ fit_more front pair front_fits pair_fits =
     ∙ ap (λ b. b && true) pair_fits
 
 -- where there is a first item there is a pair
-pub pairs_of_some : (file : ℕ) (values : Values) (close : ℕ) (doings : List DoingOf) → nat_eq (length doings) 0 ≡ false → pairs_of file values close (all_doing doings) ≡ pairs_behind file values 512 [] (all_doing doings)
-pairs_of_some file values close [] e = absurd (true≢false e)
-pairs_of_some file values close (doing ∷ doings) e = refl
+pub pairs_of_some : (file : ℕ) (values : Values) (close : ℕ) (x : Context) (items : List (Bor Item)) → nat_eq (length items) 0 ≡ false → pairs_of file values close (all_doing x items) ≡ pairs_behind file values 512 [] (all_doing x items)
+pairs_of_some file values close x [] e = absurd (true≢false e)
+pairs_of_some file values close x (item ∷ items) e = refl

@@ -4,4 +4,3 @@ pub mod Description
 pub mod Finding
 pub mod Declaration
 pub mod Given
-pub mod Fitting

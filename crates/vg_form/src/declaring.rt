@@ -8,7 +8,6 @@ ghost use Rattle.vg_form.specs.Declaration.{is_declared};
 ghost use Rattle.vg_form.specs.Finding.{FindsSo};
 
 use crate::declaration::Declaration;
-use crate::doing::Doing;
 use crate::fault::FormFault;
 use crate::naming::is_named;
 use sqlite_items::Boxed;
@@ -188,32 +187,30 @@ fn is_declared(declaration: Declaration, item: &Item, context: &Context) -> bool
 fn behind<'a>(
     declaration: Declaration,
     close: usize,
-    doings: &'a [Doing<'a>],
+    items: &'a [&'a Item],
     context: &Context,
-) -> Result<&'a [Doing<'a>], FormFault>
-    ensures { FindsSo (λ rest. all_doing rest.now) result (behind (is_declared (values_in context.now) declaration) close (all_doing doings.now)) }
+) -> Result<&'a [&'a Item], FormFault>
+    ensures { FindsSo (λ rest. all_doing context.now rest.now) result (behind (is_declared (values_in context.now) declaration) close (all_doing context.now items.now)) }
 {
-    let Some((doing, more)) = doings.split_first() else {
+    let Some((item, more)) = items.split_first() else {
         return Err(FormFault::Unlike { at: close });
     };
-    if is_declared(declaration, doing.item, context) {
+    if is_declared(declaration, item, context) {
         Ok(more)
     } else {
-        Err(FormFault::Unlike {
-            at: place_of(doing.item),
-        })
+        Err(FormFault::Unlike { at: place_of(item) })
     }
 }
 
 /// What follows the declarations.
 pub(crate) fn behind_declarations<'a>(
     close: usize,
-    doings: &'a [Doing<'a>],
+    items: &'a [&'a Item],
     context: &Context,
-) -> Result<&'a [Doing<'a>], FormFault>
-    ensures { FindsSo (λ rest. all_doing rest.now) result (behind_declarations (values_in context.now) close (all_doing doings.now)) }
+) -> Result<&'a [&'a Item], FormFault>
+    ensures { FindsSo (λ rest. all_doing context.now rest.now) result (behind_declarations (values_in context.now) close (all_doing context.now items.now)) }
 {
-    let rest = behind(Declaration::Counter, close, doings, context)?;
+    let rest = behind(Declaration::Counter, close, items, context)?;
     let rest = behind(Declaration::Memory, close, rest, context)?;
     let rest = behind(Declaration::File, close, rest, context)?;
     behind(Declaration::Format, close, rest, context)

@@ -1,13 +1,12 @@
 //! The items that are left where everything is put in place of its name.
 
 ghost use Rattle.std.specs.Prelude.{◌≡◌, IfOk};
+ghost use Rattle.std.specs.List.{filter};
 ghost use Rattle.vg_form.specs.Description.{declares};
-ghost use Rattle.vg_form.specs.Given.{all_doing, left_of};
+ghost use Rattle.vg_form.specs.Given.{items_in};
 
-use crate::doing::Doing;
 use std::alloc::{AllocError, Global};
 use vg_ast::Item;
-use vg_inline::Effect;
 
 /// Whether an item declares something that is left where constants, aliases and functions are put in place.
 fn declares(item: &Item) -> bool
@@ -19,26 +18,17 @@ fn declares(item: &Item) -> bool
     }
 }
 
-/// The items that are left, each with what it does.
-pub(crate) fn doings<'a>(
-    alloc: Global,
-    items: &'a [Item],
-    effects: &'a [Option<Effect>],
-) -> Result<Vec<Doing<'a>>, AllocError>
-    ensures { IfOk result (λ doings. all_doing doings.items ≡ left_of items.now effects.now) }
+/// The items that are left.
+pub(crate) fn left<'a>(alloc: Global, items: &'a [Item]) -> Result<Vec<&'a Item>, AllocError>
+    ensures { IfOk result (λ left. items_in left.items ≡ filter declares items.now) }
 {
-    let mut doings = Vec::new(alloc);
+    let mut left = Vec::new(alloc);
     let mut rest = items;
-    let mut behind = effects;
     while let Some((item, more)) = rest.split_first() {
-        let Some((effect, others)) = behind.split_first() else {
-            return Ok(doings);
-        };
         if declares(item) {
-            doings.push(Doing { item, effect })?;
+            left.push(item)?;
         }
         rest = more;
-        behind = others;
     }
-    Ok(doings)
+    Ok(left)
 }

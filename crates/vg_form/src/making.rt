@@ -1,29 +1,28 @@
 //! The processor of a description.
 
-ghost use Rattle.std.specs.Prelude.{◌≡◌, ◌⊎◌, ◌≤◌, ℕ, length, IfErr, IfOk, IsTrue};
-ghost use Rattle.std.specs.List.{list_all};
+ghost use Rattle.std.specs.Prelude.{◌≡◌, ◌⊎◌, ◌≤◌, ℕ, length, map, IfErr, IfOk, IsTrue};
+ghost use Rattle.std.specs.List.{filter, list_all};
 ghost use Rattle.vg_iss.specs.Kept.{is_memory_free};
-ghost use Rattle.vg_inline.specs.InPlace.{Known};
+ghost use Rattle.vg_inline.specs.InPlace.{known_of};
+ghost use Rattle.vg_inline.specs.Rules.{IsFolded};
 ghost use Rattle.vg_form.specs.declared.form.Form.{Form as TheForm};
 ghost use Rattle.vg_form.specs.Form.{fits_fields, parts_of};
-ghost use Rattle.vg_form.specs.Description.{file_of, form_by, form_of, found, name_of, unlike};
+ghost use Rattle.vg_form.specs.Description.{declares, file_of, form_by, form_of, found, name_of, unlike};
 ghost use Rattle.vg_form.specs.Finding.{FindsSo};
-ghost use Rattle.vg_form.specs.Fitting.{Fits};
-ghost use Rattle.vg_form.specs.Given.{left_of, values_by, values_in};
+ghost use Rattle.vg_form.specs.Given.{doing, values_in};
 
 use crate::build::isa_of_form;
 use crate::declaring::behind_declarations;
 use crate::fault::FormFault;
 use crate::form::Form;
-use crate::leaving::doings;
+use crate::leaving::left;
 use crate::naming::{is_ascii, text_of};
 use crate::pairing::pairs;
 use std::alloc::Global;
 use vg_ast::{Desc, Name};
-use vg_inline::{Context, Declared, Effect};
+use vg_inline::{Context, Plain, make_bodies};
 use vg_isa::{Isa, Text};
 use vg_names::Table;
-use vg_whole::Worth;
 
 fn name(alloc: Global, name: &Name) -> Result<Text, FormFault>
     ensures { FindsSo (λ text. text) result (name_of name.now) }
@@ -46,21 +45,16 @@ fn file(context: &Context) -> usize
     }
 }
 
-/// The form of a description in a context, where each instruction has its effect.
-fn form_in(
-    alloc: Global,
-    description: &Desc,
-    effects: &[Option<Effect>],
-    context: &Context,
-) -> Result<Form, FormFault>
+/// The form of a description in a context.
+fn form_in(alloc: Global, description: &Desc, context: &Context) -> Result<Form, FormFault>
     requires items { context.now.table.now.items.now ≡ description.now.items }
-    ensures so { FindsSo (λ form. form) result (form_by description.now (values_in context.now) (left_of description.now.items effects.now)) }
+    ensures so { FindsSo (λ form. form) result (form_by description.now (values_in context.now) (map (doing context.now) (filter declares description.now.items))) }
     ensures fit { IfOk result (λ form. IsTrue (list_all fits_fields form.pairs)) }
     ensures few { IfOk result (λ form. length form.pairs ≤ 512) }
 {
     let name = name(alloc, &description.name)?;
-    let doings = doings(alloc, description.items.as_slice(), effects)?;
-    let rest = behind_declarations(description.close, doings.as_slice(), context)?;
+    let left = left(alloc, description.items.as_slice())?;
+    let rest = behind_declarations(description.close, left.as_slice(), context)?;
     let pairs = pairs(alloc, description.close, rest, file(context), context)?;
     if let Some(abi) = &description.abi {
         return Err(FormFault::Unlike { at: abi.at });
@@ -71,61 +65,35 @@ fn form_in(
     Ok(Form { name, pairs })
 }
 
-fn form(
-    alloc: Global,
-    description: &Desc,
-    table: &Table,
-    worths: &[Worth],
-    aliases: &[Declared],
-    behaviours: &[Option<Effect>],
-) -> Result<Form, FormFault>
-    requires items { table.now.items.now ≡ description.now.items }
-    ensures so { FindsSo (λ form. form) result (form_by description.now (values_by description.now.items worths.now aliases.now) (left_of description.now.items behaviours.now)) }
-    ensures fit { IfOk result (λ form. IsTrue (list_all fits_fields form.pairs)) }
-    ensures few { IfOk result (λ form. length form.pairs ≤ 512) }
-{
-    let context = Context {
-        table,
-        worths,
-        aliases,
-        bodies: &[],
-        parameters: &[],
-    };
-    form_in(alloc, description, behaviours, &context)
-}
-
-fn isa_by(
-    alloc: Global,
-    description: &Desc,
-    table: &Table,
-    worths: &[Worth],
-    aliases: &[Declared],
-    behaviours: &[Option<Effect>],
-) -> Result<Isa, FormFault>
-    requires items { table.now.items.now ≡ description.now.items }
-    ensures isa { IfOk result (λ isa. (form : TheForm) × (form_by description.now (values_by description.now.items worths.now aliases.now) (left_of description.now.items behaviours.now) ≡ found form) × (isa ≡ parts_of form)) }
+/// The processor of a description in a context.
+fn isa_in(alloc: Global, description: &Desc, context: &Context) -> Result<Isa, FormFault>
+    requires items { context.now.table.now.items.now ≡ description.now.items }
+    ensures isa { let x = context.now in IfOk result (λ isa. (form : TheForm) × (form_by description.now (values_in x) (map (doing x) (filter declares description.now.items)) ≡ found form) × (isa ≡ parts_of form)) }
     ensures memory_free { IfOk result (λ isa. IsTrue (is_memory_free isa)) }
-    ensures fault { IfErr result (λ f. (f ≡ FormFault.OutOfMemory) ⊎ ((at : ℕ) × (f ≡ FormFault.Unlike at) × (form_by description.now (values_by description.now.items worths.now aliases.now) (left_of description.now.items behaviours.now) ≡ unlike at))) }
+    ensures fault { let x = context.now in IfErr result (λ f. (f ≡ FormFault.OutOfMemory) ⊎ ((at : ℕ) × (f ≡ FormFault.Unlike at) × (form_by description.now (values_in x) (map (doing x) (filter declares description.now.items)) ≡ unlike at))) }
 {
-    let form = form(alloc, description, table, worths, aliases, behaviours)?;
+    let form = form_in(alloc, description, context)?;
     let isa = isa_of_form(alloc, &form)?;
     Ok(isa)
 }
 
-/// The processor of a description with everything in place of its names, or the place of the first thing in the text that
-/// isn't built yet. It is given what each item is worth, what each alias stands for and what each instruction does, at the
-/// numbers of the items.
-pub fn isa_of(
-    alloc: Global,
-    description: &Desc,
-    worths: &[Worth],
-    aliases: &[Declared],
-    behaviours: &[Option<Effect>],
-) -> Result<Isa, FormFault>
-    ensures isa { (known : Known) → Fits description.now known worths.now aliases.now behaviours.now → IfOk result (λ isa. (form : TheForm) × (form_of description.now known ≡ found form) × (isa ≡ parts_of form)) }
+/// The processor of a folded description, or the place of the first thing in the text that isn't built yet. What an
+/// instruction does is made and dropped before the next.
+pub fn isa_of(alloc: Global, plain: &Plain) -> Result<Isa, FormFault>
+    requires folded { IsFolded plain.now.description plain.now }
+    ensures isa { let d = plain.now.description in IfOk result (λ isa. (form : TheForm) × (form_of d (known_of d.items) ≡ found form) × (isa ≡ parts_of form)) }
     ensures memory_free { IfOk result (λ isa. IsTrue (is_memory_free isa)) }
-    ensures fault { (known : Known) → Fits description.now known worths.now aliases.now behaviours.now → IfErr result (λ f. (f ≡ FormFault.OutOfMemory) ⊎ ((at : ℕ) × (f ≡ FormFault.Unlike at) × (form_of description.now known ≡ unlike at))) }
+    ensures fault { let d = plain.now.description in IfErr result (λ f. (f ≡ FormFault.OutOfMemory) ⊎ ((at : ℕ) × (f ≡ FormFault.Unlike at) × (form_of d (known_of d.items) ≡ unlike at))) }
 {
-    let table = Table::new(alloc, description.items.as_slice())?;
-    isa_by(alloc, description, &table, worths, aliases, behaviours)
+    let table = Table::new(alloc, plain.description.items.as_slice())?;
+    let bodies = make_bodies(alloc, &table, plain)?;
+    let context = Context {
+        table: &table,
+        worths: plain.worths.as_slice(),
+        aliases: plain.aliases.as_slice(),
+        bodies: bodies.trees.as_slice(),
+        keep: bodies.keep,
+        parameters: &[],
+    };
+    isa_in(alloc, &plain.description, &context)
 }

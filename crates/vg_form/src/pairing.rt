@@ -5,19 +5,18 @@ ghost use Rattle.std.specs.List.{list_all, list_any};
 ghost use Rattle.vg_form.specs.Form.{fits_fields};
 ghost use Rattle.vg_form.specs.Description.{effect_step, encoding_of, fixed, instruction_of, is_ascii, is_rd, is_target, number_below, numbers_of, pair_of, pairs_behind, pairs_of, same_encoding, value_in, value_of, value_written};
 ghost use Rattle.vg_form.specs.Finding.{are_fitting, FindsSo, SeesSo};
-ghost use Rattle.vg_form.specs.Given.{all_doing, doing, values_in};
+ghost use Rattle.vg_form.specs.Given.{all_doing, doing, effect_in, values_in};
 
 use crate::declaring::place_of;
-use crate::doing::Doing;
 use crate::fault::FormFault;
 use crate::form::{Behaviour, Pair};
 use crate::naming::{is_ascii, is_named, text_of};
 use crate::shape::{Operand, Shape};
 use crate::shaping::shape;
 use sqlite_items::Items;
-use std::alloc::Global;
+use std::alloc::{AllocError, Global};
 use vg_ast::{Fix, Item, Name};
-use vg_inline::{Context, Effect, Target, Tree, worth_of};
+use vg_inline::{Context, Effect, Target, Tree, behaviour_in, worth_of};
 use vg_whole::Worth;
 
 /// A description has at most so many pairs of an instruction and its encoding.
@@ -81,21 +80,40 @@ fn behaviour(effect: &Option<Effect>, file: usize) -> Option<Behaviour>
     }
 }
 
-/// The name of an instruction, and what it does.
-fn instruction<'a>(doing: &Doing<'a>, file: usize) -> Option<(&'a Name, Behaviour)>
-    ensures so { SeesSo (λ x. (x.0.now, x.1)) result (instruction_of file doing.now.item.now doing.now.effect.now) }
-    ensures ascii { IfSome result (λ x. IsTrue (is_ascii x.0.now.text)) }
+/// What an instruction does; it is made for this alone.
+fn made(
+    alloc: Global,
+    item: &Item,
+    file: usize,
+    context: &Context,
+) -> Result<Option<Behaviour>, AllocError>
+    ensures { IfOk result (λ made. made ≡ value_in file (effect_in context.now item.now)) }
 {
-    match doing.item {
+    let effect = behaviour_in(alloc, item, context)?;
+    Ok(behaviour(&effect, file))
+}
+
+/// The name of an instruction, and what it does.
+fn instruction<'a>(
+    alloc: Global,
+    item: &'a Item,
+    file: usize,
+    context: &Context,
+) -> Result<Option<(&'a Name, Behaviour)>, AllocError>
+    ensures so { IfOk result (λ found. SeesSo (λ x. (x.0.now, x.1)) found (instruction_of file item.now (effect_in context.now item.now))) }
+    ensures ascii { IfOk result (λ found. IfSome found (λ x. IsTrue (is_ascii x.0.now.text))) }
+{
+    match item {
         Item::Instruction { name, format, .. } => {
-            if is_ascii(name.text.as_slice()) && is_named(format.text.as_slice(), b"R") {
-                let behaviour = behaviour(doing.effect, file)?;
-                Some((name, behaviour))
-            } else {
-                None
+            if !is_ascii(name.text.as_slice()) || !is_named(format.text.as_slice(), b"R") {
+                return Ok(None);
+            }
+            match made(alloc, item, file, context)? {
+                None => Ok(None),
+                Some(behaviour) => Ok(Some((name, behaviour))),
             }
         }
-        _ => None,
+        _ => Ok(None),
     }
 }
 
@@ -176,23 +194,19 @@ fn has_encoding(pairs: &[Pair], pair: &Pair) -> bool
 fn pair(
     alloc: Global,
     front: &[Pair],
-    first: &Doing,
-    second: &Doing,
+    first: &Item,
+    second: &Item,
     file: usize,
     context: &Context,
 ) -> Result<Pair, FormFault>
-    ensures so { FindsSo (λ pair. pair) result (pair_of file (values_in context.now) front.now (doing first.now) (doing second.now ∷ [])) }
+    ensures so { FindsSo (λ pair. pair) result (pair_of file (values_in context.now) front.now (doing context.now first.now) (doing context.now second.now ∷ [])) }
     ensures fit { IfOk result (λ pair. IsTrue (fits_fields pair)) }
 {
-    let Some((name, behaviour)) = instruction(first, file) else {
-        return Err(FormFault::Unlike {
-            at: place_of(first.item),
-        });
+    let Some((name, behaviour)) = instruction(alloc, first, file, context)? else {
+        return Err(FormFault::Unlike { at: place_of(first) });
     };
-    let Some((f7, f3, op)) = encoding(name, second.item, context) else {
-        return Err(FormFault::Unlike {
-            at: place_of(second.item),
-        });
+    let Some((f7, f3, op)) = encoding(name, second, context) else {
+        return Err(FormFault::Unlike { at: place_of(second) });
     };
     let pair = Pair {
         name: text_of(alloc, name.text.as_slice())?,
@@ -213,28 +227,24 @@ fn pairs_behind(
     alloc: Global,
     room: usize,
     front: Items<Pair>,
-    doings: &[Doing],
+    items: &[&Item],
     file: usize,
     context: &Context,
 ) -> Result<Items<Pair>, FormFault>
     requires fit { IsTrue (list_all fits_fields front) }
     requires few { length front + room ≤ 512 }
-    ensures so { FindsSo (λ pairs. pairs) result (pairs_behind file (values_in context.now) room front (all_doing doings.now)) }
+    ensures so { FindsSo (λ pairs. pairs) result (pairs_behind file (values_in context.now) room front (all_doing context.now items.now)) }
     ensures fit { IfOk result (λ pairs. IsTrue (list_all fits_fields pairs)) }
     ensures few { IfOk result (λ pairs. length pairs ≤ 512) }
 {
-    let Some((first, behind)) = doings.split_first() else {
+    let Some((first, behind)) = items.split_first() else {
         return Ok(front);
     };
     if room == 0 {
-        return Err(FormFault::Unlike {
-            at: place_of(first.item),
-        });
+        return Err(FormFault::Unlike { at: place_of(first) });
     }
     let Some((second, more)) = behind.split_first() else {
-        return Err(FormFault::Unlike {
-            at: place_of(first.item),
-        });
+        return Err(FormFault::Unlike { at: place_of(first) });
     };
     let pair = pair(alloc, front.as_slice(), first, second, file, context)?;
     let mut pairs = front;
@@ -246,16 +256,16 @@ fn pairs_behind(
 pub(crate) fn pairs(
     alloc: Global,
     close: usize,
-    doings: &[Doing],
+    items: &[&Item],
     file: usize,
     context: &Context,
 ) -> Result<Items<Pair>, FormFault>
-    ensures so { FindsSo (λ pairs. pairs) result (pairs_of file (values_in context.now) close (all_doing doings.now)) }
+    ensures so { FindsSo (λ pairs. pairs) result (pairs_of file (values_in context.now) close (all_doing context.now items.now)) }
     ensures fit { IfOk result (λ pairs. IsTrue (list_all fits_fields pairs)) }
     ensures few { IfOk result (λ pairs. length pairs ≤ 512) }
 {
-    if doings.is_empty() {
+    if items.is_empty() {
         return Err(FormFault::Unlike { at: close });
     }
-    pairs_behind(alloc, MOST_PAIRS, Items::new(alloc), doings, file, context)
+    pairs_behind(alloc, MOST_PAIRS, Items::new(alloc), items, file, context)
 }

@@ -9,10 +9,11 @@ use Rattle.vg_names.proofs.Lookups.{item_of_number}
 use Rattle.vg_whole.specs.Whole.{Inner}
 use Rattle.vg_inline.specs.Context.{Kepts}
 use Rattle.vg_inline.specs.Inline.{field_values}
-use Rattle.vg_inline.specs.Kept.{keeping}
+use Rattle.vg_inline.specs.declared.keep.Keep.{Keep}
+use Rattle.vg_inline.specs.Kept.{keeping_as}
 
-pub format_missing : (all : List Item) (text : Text) → number_named all text ≡ None → (let none : Inner Kepts = [] in none) ≡ field_values keeping 0 (fields_of_format (item_named all text))
-format_missing all text e = ap (λ (o : Option Item). field_values keeping 0 (fields_of_format o)) (unnumbered_item all text (sym e))
+pub format_missing : (keep : Keep) (all : List Item) (text : Text) → number_named all text ≡ None → (let none : Inner Kepts = [] in none) ≡ field_values (keeping_as keep) 0 (fields_of_format (item_named all text))
+format_missing keep all text e = ap (λ (o : Option Item). field_values (keeping_as keep) 0 (fields_of_format o)) (unnumbered_item all text (sym e))
 
-pub format_found : (all : List Item) (text : Text) (k : ℕ) → number_named all text ≡ Some k → field_values keeping 0 (fields_of_format (slice_get all k)) ≡ field_values keeping 0 (fields_of_format (item_named all text))
-format_found all text k e = ap (λ (o : Option Item). field_values keeping 0 (fields_of_format o)) (item_of_number all text k e)
+pub format_found : (keep : Keep) (all : List Item) (text : Text) (k : ℕ) → number_named all text ≡ Some k → field_values (keeping_as keep) 0 (fields_of_format (slice_get all k)) ≡ field_values (keeping_as keep) 0 (fields_of_format (item_named all text))
+format_found keep all text k e = ap (λ (o : Option Item). field_values (keeping_as keep) 0 (fields_of_format o)) (item_of_number all text k e)

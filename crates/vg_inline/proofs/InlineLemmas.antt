@@ -17,7 +17,6 @@ use Rattle.vg_ast.specs.declared.item.Item.TheVariants as items
 use Rattle.vg_ast.specs.Start.{start_of, start_step}
 use Rattle.vg_names.specs.Definition.{item_named}
 use Rattle.vg_names.specs.Numbers.{number_named}
-use Rattle.vg_whole.specs.declared.worth.Worth.{Worth}
 use Rattle.vg_whole.specs.declared.worth.Worth.TheVariants.{Whole}
 use Rattle.vg_whole.specs.Whole.{Inner, inner_of, binary_whole}
 use Rattle.vg_inline.specs.declared.declared.Declared.{Declared}
@@ -25,9 +24,10 @@ use Rattle.vg_inline.specs.declared.head.Head.TheVariants as heads
 use Rattle.vg_inline.specs.declared.value.Value.{Value}
 use Rattle.vg_inline.specs.declared.kept.Kept.{Kept}
 use Rattle.vg_inline.specs.Types.{type_of, type_worths}
-use Rattle.vg_inline.specs.Inline.{Making, Known, Inlining, typed, whole_or, number_or, named_value, taking, taking_types, callee_of, tree_of, called, start_in, first_start, inlining_step, inlining, inlined}
+use Rattle.vg_inline.specs.Inline.{Making, Known, Inlining, typed, whole_or, number_or, named_value, taking_types, callee_of, tree_of, called, start_in, first_start, inlining_step, inlining, inlined}
 use Rattle.vg_inline.specs.declared.kept.KeptList.{KeptList}
-use Rattle.vg_inline.specs.Kept.{keeping, kept_node, node_over, gathered, no_trees}
+use Rattle.vg_inline.specs.declared.keep.Keep.{Keep}
+use Rattle.vg_inline.specs.Kept.{keeping_as, kept_node, node_over, gathered, no_trees}
 use Rattle.vg_inline.specs.Context.{Kepts, taken_at, parameters_called}
 use Rattle.vg_inline.proofs.Loops.{regroup, ending}
 
@@ -138,25 +138,25 @@ pub ruleset inline_steps = (inlined-Number, inlined-Name, inlined-Call, inlined-
 
 -- ---- arguments with the types of their parameters
 
-taken_first : (declared : Parameter → Declared) (ps : List Parameter) (i : ℕ) (v : Kepts) (rest : List Kepts) → taking_types keeping declared (drop i ps) (v ∷ rest) ≡ taken_at declared (slice_get ps i) v ∷ taking_types keeping declared (drop (suc i) ps) rest
-taken_first declared [] zero v rest = refl
-taken_first declared [] (suc i) v rest = refl
-taken_first declared (p ∷ ps) zero v rest = refl
-taken_first declared (p ∷ ps) (suc i) v rest = taken_first declared ps i v rest
+taken_first : (keep : Keep) (declared : Parameter → Declared) (ps : List Parameter) (i : ℕ) (v : Kepts) (rest : List Kepts) → taking_types (keeping_as keep) declared (drop i ps) (v ∷ rest) ≡ taken_at keep declared (slice_get ps i) v ∷ taking_types (keeping_as keep) declared (drop (suc i) ps) rest
+taken_first keep declared [] zero v rest = refl
+taken_first keep declared [] (suc i) v rest = refl
+taken_first keep declared (p ∷ ps) zero v rest = refl
+taken_first keep declared (p ∷ ps) (suc i) v rest = taken_first keep declared ps i v rest
 
 -- the arguments before number i stand in the list
-abbrev pub Taking : {A : Type 0} → (Parameter → Declared) → (A → Kepts) → List Parameter → List A → ℕ → List (Option Kept) → Type 0
-Taking declared f ps xs i done = taking_types keeping declared ps (map f xs) ≡ done ++ taking_types keeping declared (drop i ps) (map f (drop i xs))
+abbrev pub Taking : {A : Type 0} → Keep → (Parameter → Declared) → (A → Kepts) → List Parameter → List A → ℕ → List (Option Kept) → Type 0
+Taking keep declared f ps xs i done = taking_types (keeping_as keep) declared ps (map f xs) ≡ done ++ taking_types (keeping_as keep) declared (drop i ps) (map f (drop i xs))
 
-pub taking_more : {A : Type 0} (declared : Parameter → Declared) (f : A → Kepts) (ps : List Parameter) (xs : List A) (i : ℕ) (x : A) (done next : List (Option Kept)) (v : Kepts) (t : Option Kept)
-    → Taking declared f ps xs i done → i < length xs → x ≡ get_or xs i x → v ≡ f x → t ≡ taken_at declared (slice_get ps i) v → next ≡ done ++ t ∷ [] → Taking declared f ps xs (i + 1) next
-taking_more declared f ps xs i x done next v t h lt read value e g =
-    let rest = taking_types keeping declared (drop (i + 1) ps) (map f (drop (i + 1) xs)) in
-    h ∙ ap (λ (l : List _). done ++ taking_types keeping declared (drop i ps) (map f l)) (drop_more xs i x lt)
-    ∙ ap (λ (y : _). done ++ taking_types keeping declared (drop i ps) (f y ∷ map f (drop (i + 1) xs))) (sym read)
-    ∙ ap (λ (l : List (Option Kept)). done ++ l) (taken_first declared ps i (f x) (map f (drop (i + 1) xs)))
-    ∙ ap (λ (n : ℕ). done ++ taken_at declared (slice_get ps i) (f x) ∷ taking_types keeping declared (drop n ps) (map f (drop (i + 1) xs))) (next_number i)
-    ∙ ap (λ (w : Kepts). done ++ taken_at declared (slice_get ps i) w ∷ rest) (sym value)
+pub taking_more : {A : Type 0} (keep : Keep) (declared : Parameter → Declared) (f : A → Kepts) (ps : List Parameter) (xs : List A) (i : ℕ) (x : A) (done next : List (Option Kept)) (v : Kepts) (t : Option Kept)
+    → Taking keep declared f ps xs i done → i < length xs → x ≡ get_or xs i x → v ≡ f x → t ≡ taken_at keep declared (slice_get ps i) v → next ≡ done ++ t ∷ [] → Taking keep declared f ps xs (i + 1) next
+taking_more keep declared f ps xs i x done next v t h lt read value e g =
+    let rest = taking_types (keeping_as keep) declared (drop (i + 1) ps) (map f (drop (i + 1) xs)) in
+    h ∙ ap (λ (l : List _). done ++ taking_types (keeping_as keep) declared (drop i ps) (map f l)) (drop_more xs i x lt)
+    ∙ ap (λ (y : _). done ++ taking_types (keeping_as keep) declared (drop i ps) (f y ∷ map f (drop (i + 1) xs))) (sym read)
+    ∙ ap (λ (l : List (Option Kept)). done ++ l) (taken_first keep declared ps i (f x) (map f (drop (i + 1) xs)))
+    ∙ ap (λ (n : ℕ). done ++ taken_at keep declared (slice_get ps i) (f x) ∷ taking_types (keeping_as keep) declared (drop n ps) (map f (drop (i + 1) xs))) (next_number i)
+    ∙ ap (λ (w : Kepts). done ++ taken_at keep declared (slice_get ps i) w ∷ rest) (sym value)
     ∙ ap (λ (u : Option Kept). done ++ u ∷ rest) (sym e)
     ∙ regroup done t rest
     ∙ ap (λ (l : List (Option Kept)). l ++ rest) (sym g)
@@ -164,15 +164,15 @@ taking_more declared f ps xs i x done next v t h lt read value e g =
     next_number : (n : ℕ) → suc n ≡ n + 1
     next_number n = omega arith
 
-nothing_taken : (declared : Parameter → Declared) (ps : List Parameter) → taking_types keeping declared ps [] ≡ []
-nothing_taken declared [] = refl
-nothing_taken declared (p ∷ ps) = refl
+nothing_taken : (keep : Keep) (declared : Parameter → Declared) (ps : List Parameter) → taking_types (keeping_as keep) declared ps [] ≡ []
+nothing_taken keep declared [] = refl
+nothing_taken keep declared (p ∷ ps) = refl
 
-pub taking_all : {A : Type 0} (declared : Parameter → Declared) (f : A → Kepts) (ps : List Parameter) (xs : List A) (i : ℕ) (done : List (Option Kept)) → Taking declared f ps xs i done → length xs ≤ i → done ≡ taking_types keeping declared ps (map f xs)
-taking_all declared f ps xs i done h le =
+pub taking_all : {A : Type 0} (keep : Keep) (declared : Parameter → Declared) (f : A → Kepts) (ps : List Parameter) (xs : List A) (i : ℕ) (done : List (Option Kept)) → Taking keep declared f ps xs i done → length xs ≤ i → done ≡ taking_types (keeping_as keep) declared ps (map f xs)
+taking_all keep declared f ps xs i done h le =
     sym
-    (h ∙ ap (λ (l : List _). done ++ taking_types keeping declared (drop i ps) (map f l)) (drop_all i xs le)
-    ∙ ap (λ (l : List (Option Kept)). done ++ l) (nothing_taken declared (drop i ps))
+    (h ∙ ap (λ (l : List _). done ++ taking_types (keeping_as keep) declared (drop i ps) (map f l)) (drop_all i xs le)
+    ∙ ap (λ (l : List (Option Kept)). done ++ l) (nothing_taken keep declared (drop i ps))
     ∙ ending done)
 
 -- ---- a register of a register file
@@ -181,14 +181,14 @@ tree_list : {A : Type 0} (f : A → Kepts) (xs : List A) → map tree_of (map f 
 tree_list f [] = refl
 tree_list f (x ∷ xs) = ap (λ (l : List (Option Kept)). (f x).tree ∷ l) (tree_list f xs)
 
-called_register : (all : List Item) (known : Known (Option Kept)) (item : Option Item) (name : Name) (at : ℕ) (vs : List Kepts) → parameters_called item ≡ None
-    → kept_node (heads.Indexed (number_or (number_named all name.text)) name.at at) (map tree_of vs) ≡ called keeping all known item name at vs
-called_register all known (Some (items.Function p n parameters result body)) name at vs e = absurd (cc)
-called_register all known _ name at vs e = refl
+called_register : (keep : Keep) (all : List Item) (known : Known (Option Kept)) (item : Option Item) (name : Name) (at : ℕ) (vs : List Kepts) → parameters_called item ≡ None
+    → kept_node keep (heads.Indexed (number_or (number_named all name.text)) name.at at) (map tree_of vs) ≡ called (keeping_as keep) all known item name at vs
+called_register keep all known (Some (items.Function p n parameters result body)) name at vs e = absurd (cc)
+called_register keep all known _ name at vs e = refl
 
-pub register_called : {A : Type 0} (all : List Item) (known : Known (Option Kept)) (item : Option Item) (name : Name) (number at : ℕ) (f : A → Kepts) (xs : List A) (list : Option KeptList) → parameters_called item ≡ None
-    → number ≡ number_or (number_named all name.text) → list ≡ gathered no_trees (map (λ (x : A). (f x).tree) xs) → node_over (heads.Indexed number name.at at) list ≡ called keeping all known item name at (map f xs)
-register_called all known item name number at f xs list is same e =
-    ap (λ (k : ℕ). node_over (heads.Indexed k name.at at) list) same
-    ∙ ap (node_over (heads.Indexed (number_or (number_named all name.text)) name.at at)) (e ∙ ap (gathered no_trees) (sym (tree_list f xs)))
-    ∙ called_register all known item name at (map f xs) is
+pub register_called : {A : Type 0} (keep : Keep) (all : List Item) (known : Known (Option Kept)) (item : Option Item) (name : Name) (number at : ℕ) (f : A → Kepts) (xs : List A) (list : Option KeptList) → parameters_called item ≡ None
+    → number ≡ number_or (number_named all name.text) → list ≡ gathered keep no_trees (map (λ (x : A). (f x).tree) xs) → node_over keep (heads.Indexed number name.at at) list ≡ called (keeping_as keep) all known item name at (map f xs)
+register_called keep all known item name number at f xs list is same e =
+    ap (λ (k : ℕ). node_over keep (heads.Indexed k name.at at) list) same
+    ∙ ap (node_over keep (heads.Indexed (number_or (number_named all name.text)) name.at at)) (e ∙ ap (gathered keep no_trees) (sym (tree_list f xs)))
+    ∙ called_register keep all known item name at (map f xs) is

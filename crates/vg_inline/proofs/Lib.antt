@@ -1,6 +1,6 @@
 mod TreeLemmas
 mod Loops
-mod Weights
+mod CallLemmas
 mod Filling
 mod FindLemmas
 mod InlineLemmas
@@ -11,4 +11,7 @@ mod FieldLemmas
 mod Within
 mod StatePicture
 mod EffectWithin
+mod Greatest
 pub mod WholeBehaviours
+pub mod Few
+pub mod Making

@@ -5,9 +5,8 @@ use Rattle.std.specs.Option.{option_map}
 use Rattle.std.specs.Str.{bytes_eq}
 use Rattle.vg_ast.specs.declared.name.Name.{Name}
 use Rattle.vg_ast.specs.declared.parameter.Parameter.{Parameter}
-use Rattle.vg_ast.specs.declared.type_expr.TypeExpr.{TypeExpr}
 use Rattle.vg_ast.specs.declared.type_expr.TypeExpr.TheVariants as types
-use Rattle.vg_ast.specs.declared.expr.Expr.{Expr, fold-roll-Expr, map-Expr, roll-Expr, ind-Expr}
+use Rattle.vg_ast.specs.declared.expr.Expr.{Expr, map-Expr, roll-Expr, ind-Expr}
 use Rattle.vg_ast.specs.declared.expr.Expr.TheOpen.{Expr-F}
 use Rattle.vg_ast.specs.declared.expr.Expr.TheVariants as tree
 use Rattle.vg_ast.specs.declared.expr.Expr.TheVariants.{rolls-Number, rolls-Name, rolls-Call, rolls-Access, rolls-Join, rolls-Parentheses, rolls-Unary, rolls-Binary, rolls-Cast, rolls-Slice, rolls-If, rolls-Let}
@@ -25,7 +24,7 @@ use Rattle.vg_inline.specs.declared.declared.Declared.TheVariants as type
 use Rattle.vg_inline.specs.declared.head.Head.{Head}
 use Rattle.vg_inline.specs.declared.head.Head.TheVariants as heads
 use Rattle.vg_inline.specs.declared.value.Value.{Value}
-use Rattle.vg_inline.specs.Types.{Aliases, declared_type, type_of, type_worths}
+use Rattle.vg_inline.specs.Types.{Aliases, declared_type}
 use Rattle.vg_inline.specs.Inline.{Making, Known, typed, whole_or, constant_or, number_or, named_value, taking_types, callee_of, tree_of, called, first_start, inlined, parameter_values, field_values, with_bodies, body_step, bodies_of}
 use Rattle.vg_inline.proofs.InlineLemmas.{inlined-Number, inlined-Name, inlined-Call, inlined-Access, inlined-Join, inlined-Parentheses, inlined-Unary, worth-Binary, tree-Binary, inlined-Slice, inlined-If, inlined-Let, inlined-Cast}
 

@@ -1,6 +1,5 @@
 -- What a statement of each kind is with everything in place.
 use Rattle.std.proofs.Common.{◌≡◌, ℕ, ◌+◌, ◌<◌, ◌≤◌, List, map, [], ◌∷◌, Option, Some, None, length, get_or, drop, refl, sym, ap, ◌∙◌}
-use Rattle.std.specs.Option.{option_map}
 use Rattle.std.proofs.lemmas.List.{drop_more, drop_all}
 use Rattle.vg_ast.specs.declared.name.Name.{Name}
 use Rattle.vg_ast.specs.declared.expr.Expr.{Expr}
@@ -17,6 +16,7 @@ use Rattle.vg_inline.specs.declared.kept.KeptEffect.{KeptEffect}
 use Rattle.vg_inline.specs.declared.kept.KeptEffects.{KeptEffects}
 use Rattle.vg_inline.specs.Inline.{Known, inlined}
 use Rattle.vg_inline.specs.Behaviour.{Stating, Effects, target_of, target_parts, effect_step, effect_of}
+use Rattle.vg_inline.specs.declared.keep.Keep.{Keep}
 use Rattle.vg_inline.specs.Kept.{added_effect, gathered_effects}
 
 module _ (X Y : Type 0) (s : Stating X Y) (all : List Item) (known : Known X) (inner : Inner (Value X)) where
@@ -51,15 +51,15 @@ module _ (X Y : Type 0) (s : Stating X Y) (all : List Item) (known : Known X) (i
 pub ruleset state_steps = (state-Block, state-Let, state-If_alone, state-If_else, state-Assign)
 
 -- what is gathered so far, and the rest behind it
-abbrev pub Gathering : {A : Type 0} → (A → Option KeptEffect) → List A → ℕ → Option KeptEffects → Option KeptEffects → Type 0
-Gathering f xs i first list = gathered_effects first (map f xs) ≡ gathered_effects list (map f (drop i xs))
+abbrev pub Gathering : {A : Type 0} → Keep → (A → Option KeptEffect) → List A → ℕ → Option KeptEffects → Option KeptEffects → Type 0
+Gathering keep f xs i first list = gathered_effects keep first (map f xs) ≡ gathered_effects keep list (map f (drop i xs))
 
-pub gathering_more : {A : Type 0} (f : A → Option KeptEffect) (xs : List A) (i : ℕ) (x : A) (first list next : Option KeptEffects) (t : Option KeptEffect) → Gathering f xs i first list → i < length xs → x ≡ get_or xs i x → t ≡ f x → next ≡ added_effect list t → Gathering f xs (i + 1) first next
-gathering_more f xs i x first list next t h lt read e g =
-    h ∙ ap (λ (l : List _). gathered_effects list (map f l)) (drop_more xs i x lt)
-    ∙ ap (λ (y : _). gathered_effects (added_effect list (f y)) (map f (drop (i + 1) xs))) (sym read)
-    ∙ ap (λ (u : Option KeptEffect). gathered_effects (added_effect list u) (map f (drop (i + 1) xs))) (sym e)
-    ∙ ap (λ (l : Option KeptEffects). gathered_effects l (map f (drop (i + 1) xs))) (sym g)
+pub gathering_more : {A : Type 0} (keep : Keep) (f : A → Option KeptEffect) (xs : List A) (i : ℕ) (x : A) (first list next : Option KeptEffects) (t : Option KeptEffect) → Gathering keep f xs i first list → i < length xs → x ≡ get_or xs i x → t ≡ f x → next ≡ added_effect keep list t → Gathering keep f xs (i + 1) first next
+gathering_more keep f xs i x first list next t h lt read e g =
+    h ∙ ap (λ (l : List _). gathered_effects keep list (map f l)) (drop_more xs i x lt)
+    ∙ ap (λ (y : _). gathered_effects keep (added_effect keep list (f y)) (map f (drop (i + 1) xs))) (sym read)
+    ∙ ap (λ (u : Option KeptEffect). gathered_effects keep (added_effect keep list u) (map f (drop (i + 1) xs))) (sym e)
+    ∙ ap (λ (l : Option KeptEffects). gathered_effects keep l (map f (drop (i + 1) xs))) (sym g)
 
-pub gathering_all : {A : Type 0} (f : A → Option KeptEffect) (xs : List A) (i : ℕ) (first list : Option KeptEffects) → Gathering f xs i first list → length xs ≤ i → list ≡ gathered_effects first (map f xs)
-gathering_all f xs i first list h le = sym (h ∙ ap (λ (l : List _). gathered_effects list (map f l)) (drop_all i xs le))
+pub gathering_all : {A : Type 0} (keep : Keep) (f : A → Option KeptEffect) (xs : List A) (i : ℕ) (first list : Option KeptEffects) → Gathering keep f xs i first list → length xs ≤ i → list ≡ gathered_effects keep first (map f xs)
+gathering_all keep f xs i first list h le = sym (h ∙ ap (λ (l : List _). gathered_effects keep list (map f l)) (drop_all i xs le))

@@ -7,12 +7,10 @@ use Rattle.vg_ast.specs.declared.goal.Goal.{Goal}
 use Rattle.vg_ast.specs.declared.goal.Goal.TheVariants as goals
 use Rattle.vg_ast.specs.declared.statement.Statement.{Statement, map-Statement, roll-Statement, ind-Statement}
 use Rattle.vg_ast.specs.declared.statement.Statement.TheOpen.{Statement-F}
-use Rattle.vg_ast.specs.declared.statement.Statement.TheVariants as trees
 use Rattle.vg_ast.specs.declared.statement.Statement.TheVariants.{rolls-Block, rolls-Let, rolls-If, rolls-Assign}
 use Rattle.vg_ast.specs.declared.item.Item.{Item}
 use Rattle.vg_ast.specs.Start.{start_of}
 use Rattle.vg_names.specs.Definition.{item_named, fields_of_format}
-use Rattle.vg_whole.specs.declared.worth.Worth.{Worth}
 use Rattle.vg_whole.specs.Whole.{Inner}
 use Rattle.vg_inline.specs.declared.effect.Target.{Target}
 use Rattle.vg_inline.specs.declared.effect.Target.TheVariants as targets

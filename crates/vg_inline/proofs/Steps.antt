@@ -17,15 +17,13 @@ use Rattle.vg_names.proofs.Texts.{among_first, among_left, among_right}
 use Rattle.vg_names.specs.Cyclic.{is_replaced}
 use Rattle.vg_names.specs.Uses.{Names, outer, all_of, names_step, expression_names, type_expr_names, parameter_names, uses_of}
 use Rattle.vg_names.specs.Worked.{IsStep}
-use Rattle.vg_whole.specs.declared.worth.Worth.{Worth}
-use Rattle.vg_whole.specs.Whole.{Inner, inner_of, binary_whole, Constants, whole_of}
+use Rattle.vg_whole.specs.Whole.{Inner, inner_of, binary_whole, Constants}
 use Rattle.vg_inline.specs.declared.declared.Declared.{Declared}
 use Rattle.vg_inline.specs.declared.declared.Declared.TheVariants as type
 use Rattle.vg_inline.specs.declared.head.Head.TheVariants as heads
 use Rattle.vg_inline.specs.declared.value.Value.{Value}
 use Rattle.vg_inline.specs.Types.{Aliases, declared_type, alias_step}
-use Rattle.vg_inline.specs.Inline.{Making, Known, typed, whole_or, constant_or, named_value, number_or, taking_types, callee_of, called, first_start, inlined, parameter_values, with_bodies, body_step}
-use Rattle.vg_names.specs.Numbers.{number_named}
+use Rattle.vg_inline.specs.Inline.{Making, typed, whole_or, constant_or, taking_types, callee_of, called, first_start, inlined, parameter_values, with_bodies, body_step}
 use Rattle.vg_inline.proofs.InlineLemmas.{inlined-Number, inlined-Name, inlined-Call, inlined-Access, inlined-Join, inlined-Parentheses, inlined-Unary, worth-Binary, tree-Binary, inlined-Slice, inlined-If, inlined-Let, inlined-Cast}
 
 -- ---- aliases

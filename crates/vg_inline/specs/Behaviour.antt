@@ -1,7 +1,6 @@
 -- Statements with everything in place of their names, and what instructions do.
 use Rattle.std.specs.Prelude.{ℕ, List, [], ◌∷◌, map, Option, Some, None}
 use Rattle.std.specs.Option.{option_map}
-use Rattle.vg_ast.specs.declared.expr.Expr.{Expr}
 use Rattle.vg_ast.specs.declared.goal.Goal.{Goal}
 use Rattle.vg_ast.specs.declared.goal.Goal.TheVariants as goals
 use Rattle.vg_ast.specs.declared.statement.Statement.{Statement, fold-Statement}
@@ -9,7 +8,7 @@ use Rattle.vg_ast.specs.declared.statement.Statement.TheOpen.{Statement-F}
 use Rattle.vg_ast.specs.declared.item.Item.{Item}
 use Rattle.vg_ast.specs.declared.item.Item.TheVariants as items
 use Rattle.vg_ast.specs.Start.{start_of}
-use Rattle.vg_names.specs.Definition.{Text, item_named, fields_of_format}
+use Rattle.vg_names.specs.Definition.{item_named, fields_of_format}
 use Rattle.vg_names.specs.Numbers.{number_named}
 use Rattle.vg_whole.specs.Whole.{Inner}
 use Rattle.vg_inline.specs.declared.tree.Tree.{Tree}

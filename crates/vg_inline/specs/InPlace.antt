@@ -10,7 +10,6 @@ use Rattle.vg_whole.specs.Worths.{constants_of}
 use Rattle.vg_inline.specs.declared.declared.Declared.{Declared}
 use Rattle.vg_inline.specs.declared.tree.Tree.{Tree}
 use Rattle.vg_inline.specs.declared.effect.Effect.{Effect}
-use Rattle.vg_inline.specs.declared.kept.KeptEffect.{KeptEffect}
 use Rattle.vg_inline.specs.Size.{most_nodes, effect_size}
 use Rattle.vg_inline.specs.Types.{aliases_of, declared_type as type_declared}
 use Rattle.vg_inline.specs.Inline.{Known as KnownAs, trees, bodies_of}

@@ -56,6 +56,10 @@ constant_or making declared Typed t = t
 abbrev pub taking : {X : Type 0} → Making X → Declared → Value X → X
 taking making declared v = constant_or making declared v.worth v.tree
 
+-- a whole number, as it stands in the text
+abbrev pub number_value : {X : Type 0} → Making X → ℕ → Value X
+number_value making n = record { worth = Whole n; tree = making.node (heads.Whole (Some n)) [] }
+
 abbrev pub number_or : Option ℕ → ℕ
 number_or None = 0
 number_or (Some number) = number
@@ -100,7 +104,7 @@ first_start at (first ∷ more) = first
 
 -- one level of an expression, with its parts
 abbrev pub value_step : {X : Type 0} → Making X → List Item → Known X → Expr-F (Inlining X) → Inner (Value X) → Value X
-value_step making all known (Expr-F.Number value at) inner = record { worth = Whole value; tree = making.node (heads.Whole (Some value)) [] }
+value_step making all known (Expr-F.Number value at) inner = number_value making value
 value_step making all known (Expr-F.Name name) inner = named_value making (inner_of inner name.text) (known.constants name.text) (number_or (number_named all name.text))
 value_step making all known (Expr-F.Call name arguments) inner =
     typed (called making all known (callee_of (inner_of inner name.text) (item_named all name.text)) name (first_start name.at (map start_in arguments)) (map (λ (argument : Inlining _). argument.value inner) arguments))

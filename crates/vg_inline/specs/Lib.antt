@@ -4,6 +4,9 @@ pub mod Types
 pub mod Inline
 pub mod Behaviour
 pub mod Kept
+pub mod Counting
 pub mod Context
 pub mod InPlace
 pub mod KeptBehaviour
+pub mod Bodies
+pub mod Rules

@@ -7,6 +7,7 @@ ghost use Rattle.vg_inline.specs.Types.{alias_step, aliases_of};
 
 use crate::Declared;
 use crate::context::Context;
+use crate::keep::counts;
 use crate::whole::declared_type;
 use sqlite_items::Items;
 use std::alloc::{AllocError, Global};
@@ -25,6 +26,7 @@ fn alias_of_item(item: &Item, table: &Table, worths: &[Worth], aliases: &[Declar
                 worths,
                 aliases,
                 bodies: &[],
+                keep: counts(),
                 parameters: &[],
             };
             declared_type(meaning, &context)

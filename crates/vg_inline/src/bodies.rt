@@ -3,13 +3,14 @@ ghost use Rattle.std.specs.Prelude.{◌≡◌, [], Some, IfOk, length, replicate
 ghost use Rattle.vg_names.specs.Duplicate.{duplicates};
 ghost use Rattle.vg_names.specs.Cyclic.{IsOrder};
 ghost use Rattle.vg_whole.specs.Worths.{constants_by};
-ghost use Rattle.vg_inline.specs.Context.{aliases_by, bodies_by};
+ghost use Rattle.vg_inline.specs.Context.{aliases_by, bodies_as, bodies_by};
 ghost use Rattle.vg_inline.specs.Inline.{bodies_of, body_step};
-ghost use Rattle.vg_inline.specs.Kept.{keeping, kept_missing};
+ghost use Rattle.vg_inline.specs.Kept.{keeping, keeping_as, kept_missing};
 
 use crate::Declared;
 use crate::context::Context;
 use crate::inlining::{constant_or, inline};
+use crate::keep::{Keep, counts};
 use crate::keeping::missing;
 use crate::kept::Kept;
 use crate::names::Names;
@@ -28,8 +29,9 @@ fn body_of_item(
     worths: &[Worth],
     aliases: &[Declared],
     bodies: &[Option<Kept>],
+    keep: Keep,
 ) -> Result<Option<Kept>, AllocError>
-    ensures { let all = table.now.items.now in IfOk result (λ body. body ≡ body_step keeping all (constants_by all worths.now) (aliases_by all aliases.now) (bodies_by all bodies.now) (Some item.now)) }
+    ensures { let all = table.now.items.now in IfOk result (λ body. body ≡ body_step (keeping_as keep) all (constants_by all worths.now) (aliases_by all aliases.now) (bodies_as keep all bodies.now) (Some item.now)) }
 {
     match item {
         Item::Function {
@@ -43,27 +45,59 @@ fn body_of_item(
                 worths,
                 aliases,
                 bodies,
+                keep,
                 parameters: parameters.as_slice(),
             };
             let value = inline(alloc, body.get(), &context, &Names::Parameters)?;
             let declared = declared_type(result, &context);
-            Ok(constant_or(alloc, declared, value.worth, value.tree))
+            constant_or(alloc, declared, value.worth, value.tree, keep)
         }
-        _ => Ok(missing(alloc)),
+        _ => missing(alloc, keep),
     }
 }
 
-fn no_bodies(alloc: Global, items: &[Item]) -> Result<Items<Option<Kept>>, AllocError>
-    ensures { IfOk result (λ bodies. bodies ≡ replicate (length items.now) kept_missing) }
+fn no_bodies(alloc: Global, items: &[Item], keep: Keep) -> Result<Items<Option<Kept>>, AllocError>
+    ensures { IfOk result (λ bodies. bodies ≡ replicate (length items.now) (kept_missing keep)) }
 {
     let mut bodies = Items::new(alloc);
     for _ in items {
-        bodies.push(missing(alloc))?;
+        bodies.push(missing(alloc, keep)?)?;
     }
     Ok(bodies)
 }
 
-/// The bodies of the functions, each worked out once along the order.
+/// What is kept of the bodies of the functions, each worked out once along the order.
+pub(crate) fn bodies_kept(
+    alloc: Global,
+    description: &Desc,
+    table: &Table,
+    order: &[usize],
+    worths: &[Worth],
+    aliases: &[Declared],
+    keep: Keep,
+) -> Result<Items<Option<Kept>>, AllocError>
+    requires items { table.now.items.now ≡ description.now.items }
+    requires distinct { duplicates description.now ≡ [] }
+    requires order { IsOrder description.now.items order.now }
+    ensures { let all = description.now.items in IfOk result (λ bodies. bodies_as keep all bodies ≡ bodies_of (keeping_as keep) all (constants_by all worths.now) (aliases_by all aliases.now)) }
+{
+    let mut bodies = no_bodies(alloc, table.items, keep)?;
+    for number in order {
+        let body = body_of_item(
+            alloc,
+            &table.items[*number],
+            table,
+            worths,
+            aliases,
+            bodies.as_slice(),
+            keep,
+        )?;
+        bodies.set(*number, body);
+    }
+    Ok(bodies)
+}
+
+/// How many nodes the bodies of the functions have, and which parameters.
 pub fn work_out_bodies(
     alloc: Global,
     description: &Desc,
@@ -77,17 +111,5 @@ pub fn work_out_bodies(
     requires order { IsOrder description.now.items order.now }
     ensures { let all = description.now.items in IfOk result (λ bodies. bodies_by all bodies ≡ bodies_of keeping all (constants_by all worths.now) (aliases_by all aliases.now)) }
 {
-    let mut bodies = no_bodies(alloc, table.items)?;
-    for number in order {
-        let body = body_of_item(
-            alloc,
-            &table.items[*number],
-            table,
-            worths,
-            aliases,
-            bodies.as_slice(),
-        )?;
-        bodies.set(*number, body);
-    }
-    Ok(bodies)
+    bodies_kept(alloc, description, table, order, worths, aliases, counts())
 }

@@ -7,6 +7,7 @@ ghost use Rattle.vg_inline.specs.Inline.{number_or};
 ghost use Rattle.vg_whole.specs.Worths.{worth_at as worth_by};
 
 use crate::Declared;
+use crate::keep::Keep;
 use crate::kept::Kept;
 use vg_ast::Parameter;
 use vg_names::Table;
@@ -20,8 +21,10 @@ pub struct Context<'a> {
     pub worths: &'a [Worth],
     /// What each alias stands for, at its number.
     pub aliases: &'a [Declared],
-    /// The body of each function with everything but its parameters in place, at its number.
+    /// What is kept of the body of each function with everything but its parameters in place, at its number.
     pub bodies: &'a [Option<Kept>],
+    /// What is kept of trees.
+    pub keep: Keep,
     /// The parameters of the function that the expression is the body of.
     pub parameters: &'a [Parameter],
 }

@@ -35,9 +35,11 @@ pub(crate) fn copy_kept(alloc: Global, kept: &Option<Kept>) -> Result<Option<Kep
         None => Ok(None),
         Some(kept) => {
             let tree = copy(alloc, &kept.tree)?;
+            let parameters = Items::from_slice(alloc, kept.parameters.as_slice())?;
             Ok(Some(Kept {
                 tree,
                 nodes: kept.nodes,
+                parameters,
             }))
         }
     }

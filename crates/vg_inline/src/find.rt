@@ -6,10 +6,11 @@ ghost use Rattle.vg_names.specs.Definition.{fields_of_format, item_named};
 ghost use Rattle.vg_whole.specs.Whole.{inner_of};
 ghost use Rattle.vg_inline.specs.Inline.{callee_of, field_values, parameter_values};
 ghost use Rattle.vg_inline.specs.Context.{inner_at, found_value, items_of, parameters_called};
-ghost use Rattle.vg_inline.specs.Kept.{keeping};
+ghost use Rattle.vg_inline.specs.Kept.{keeping_as};
 
 use crate::context::Context;
 use crate::found::Found;
+use crate::keep::Keep;
 use crate::names::Names;
 use vg_ast::{Field, Item, Name, Parameter};
 
@@ -20,8 +21,8 @@ fn is_named(name: &Name, text: &[char]) -> bool
 }
 
 /// The first field of a name.
-fn field_named(fields: &[Field], text: &[char]) -> Option<Found<'static>>
-    ensures { option_map found_value result ≡ inner_of (field_values keeping 0 (map (λ (field : FieldOf). field.name.text) fields.now)) text.now }
+fn field_named(fields: &[Field], text: &[char], keep: Keep) -> Option<Found<'static>>
+    ensures { option_map (found_value keep) result ≡ inner_of (field_values (keeping_as keep) 0 (map (λ (field : FieldOf). field.name.text) fields.now)) text.now }
 {
     for (number, field) in fields.iter().enumerate() {
         if is_named(&field.name, text) {
@@ -32,8 +33,8 @@ fn field_named(fields: &[Field], text: &[char]) -> Option<Found<'static>>
 }
 
 /// The first parameter of a name.
-fn parameter_named(parameters: &[Parameter], text: &[char]) -> Option<Found<'static>>
-    ensures { option_map found_value result ≡ inner_of (parameter_values keeping 0 parameters.now) text.now }
+fn parameter_named(parameters: &[Parameter], text: &[char], keep: Keep) -> Option<Found<'static>>
+    ensures { option_map (found_value keep) result ≡ inner_of (parameter_values (keeping_as keep) 0 parameters.now) text.now }
 {
     for (number, parameter) in parameters.iter().enumerate() {
         if is_named(&parameter.name, text) {
@@ -44,23 +45,23 @@ fn parameter_named(parameters: &[Parameter], text: &[char]) -> Option<Found<'sta
 }
 
 /// The first field of a name in the format of a number.
-fn field_of(items: &[Item], format: usize, text: &[char]) -> Option<Found<'static>>
-    ensures { option_map found_value result ≡ inner_of (field_values keeping 0 (fields_of_format (slice_get items.now format))) text.now }
+fn field_of(items: &[Item], format: usize, text: &[char], keep: Keep) -> Option<Found<'static>>
+    ensures { option_map (found_value keep) result ≡ inner_of (field_values (keeping_as keep) 0 (fields_of_format (slice_get items.now format))) text.now }
 {
     match items.get(format) {
-        Some(Item::Format { fields, .. }) => field_named(fields.as_slice(), text),
+        Some(Item::Format { fields, .. }) => field_named(fields.as_slice(), text, keep),
         _ => None,
     }
 }
 
 /// What an inner name stands for; None where a name is none of them.
 pub fn find<'a>(text: &[char], names: &Names<'a>, context: &Context) -> Option<Found<'a>>
-    ensures { option_map found_value result ≡ inner_of (inner_at context.now names.now) text.now }
+    ensures { option_map (found_value context.now.keep) result ≡ inner_of (inner_at context.now names.now) text.now }
 {
     match names {
         Names::Nothing => None,
-        Names::Fields(format) => field_of(context.table.items, *format, text),
-        Names::Parameters => parameter_named(context.parameters, text),
+        Names::Fields(format) => field_of(context.table.items, *format, text, context.keep),
+        Names::Parameters => parameter_named(context.parameters, text, context.keep),
         Names::Let { name, value, outer } => {
             if name.text.as_slice() == text {
                 Some(Found::Bound(*value))

@@ -7,9 +7,10 @@ ghost use Rattle.vg_names.specs.Numbers.{number_named};
 ghost use Rattle.vg_names.specs.Worked.{value_at};
 ghost use Rattle.vg_whole.specs.Whole.{binary_whole, inner_of};
 ghost use Rattle.vg_inline.specs.declared.head.Head.TheVariants.{Binary};
+ghost use Rattle.vg_inline.specs.declared.keep.Keep.{Keep as AnyKeep};
 ghost use Rattle.vg_inline.specs.Types.{type_of, type_worths};
-ghost use Rattle.vg_inline.specs.Inline.{called, callee_of, constant_or as constant_or_of, first_start as first_start_of, named_value, number_or, taking_types, typed as typed_of, whole_or as whole_or_of};
-ghost use Rattle.vg_inline.specs.Kept.{added as added_of, gathered, keeping, kept_argument, kept_call, kept_missing, kept_node, no_trees as no_trees_of};
+ghost use Rattle.vg_inline.specs.Inline.{called, callee_of, constant_or as constant_or_of, first_start as first_start_of, named_value, number_or, number_value, taking_types, typed as typed_of, whole_or as whole_or_of};
+ghost use Rattle.vg_inline.specs.Kept.{added as added_of, gathered, kept_argument, kept_call, kept_missing, kept_node, keeping_as, no_trees as no_trees_of};
 ghost use Rattle.vg_inline.specs.Context.{Kepts, aliases_in, constants_in, found_value, inlined_at, inner_at, items_of, known_in, parameter_type, taken_at, tree_at};
 
 use crate::calling::call;
@@ -17,6 +18,7 @@ use crate::context::{Context, alias, constant, number};
 use crate::copying::copy_kept;
 use crate::find::{find, function_called};
 use crate::found::Found;
+use crate::keep::Keep;
 use crate::keeping::{added, leaf, missing, no_trees, node};
 use crate::kept::{Kept, KeptList};
 use crate::names::Names;
@@ -38,13 +40,18 @@ fn typed(tree: Option<Kept>) -> Value<Option<Kept>>
 }
 
 /// One node in place of a whole number, whatever it was worked out from.
-fn whole_or(alloc: Global, worth: Worth, tree: Option<Kept>) -> Option<Kept>
-    ensures { result ≡ whole_or_of keeping worth tree }
+fn whole_or(
+    alloc: Global,
+    worth: Worth,
+    tree: Option<Kept>,
+    keep: Keep,
+) -> Result<Option<Kept>, AllocError>
+    ensures { IfOk result (λ it. it ≡ whole_or_of (keeping_as keep) worth tree) }
 {
     match worth {
-        Worth::Whole(value) => leaf(alloc, Head::Whole { value: Some(value) }),
-        Worth::NoValue => leaf(alloc, Head::Whole { value: None }),
-        Worth::Typed => tree,
+        Worth::Whole(value) => leaf(alloc, Head::Whole { value: Some(value) }, keep),
+        Worth::NoValue => leaf(alloc, Head::Whole { value: None }, keep),
+        Worth::Typed => Ok(tree),
     }
 }
 
@@ -54,35 +61,36 @@ pub(crate) fn constant_or(
     declared: Declared,
     worth: Worth,
     tree: Option<Kept>,
-) -> Option<Kept>
-    ensures { result ≡ constant_or_of keeping declared worth tree }
+    keep: Keep,
+) -> Result<Option<Kept>, AllocError>
+    ensures { IfOk result (λ it. it ≡ constant_or_of (keeping_as keep) declared worth tree) }
 {
-    match worth {
-        Worth::Whole(value) => leaf(
-            alloc,
-            Head::Constant {
-                value: Some(value),
-                declared,
-            },
-        ),
-        Worth::NoValue => leaf(
-            alloc,
-            Head::Constant {
-                value: None,
-                declared,
-            },
-        ),
-        Worth::Typed => tree,
-    }
+    let value = match worth {
+        Worth::Whole(value) => Some(value),
+        Worth::NoValue => None,
+        Worth::Typed => return Ok(tree),
+    };
+    leaf(alloc, Head::Constant { value, declared }, keep)
+}
+
+/// A whole number.
+fn inline_number(alloc: Global, value: u128, keep: Keep) -> Result<Value<Option<Kept>>, AllocError>
+    ensures { IfOk result (λ it. it ≡ number_value (keeping_as keep) value) }
+{
+    let tree = leaf(alloc, Head::Whole { value: Some(value) }, keep)?;
+    Ok(Value {
+        worth: Worth::Whole(value),
+        tree,
+    })
 }
 
 /// What an inner name stands for, where it is used.
-fn inline_found(alloc: Global, found: Found) -> Result<Value<Option<Kept>>, AllocError>
-    ensures { IfOk result (λ value. value ≡ found_value found.entry) }
+fn inline_found(alloc: Global, found: Found, keep: Keep) -> Result<Value<Option<Kept>>, AllocError>
+    ensures { IfOk result (λ value. value ≡ found_value keep found.entry) }
 {
     match found {
-        Found::Field(field) => Ok(typed(leaf(alloc, Head::Field { field }))),
-        Found::Parameter(parameter) => Ok(typed(leaf(alloc, Head::Parameter { parameter }))),
+        Found::Field(field) => Ok(typed(leaf(alloc, Head::Field { field }, keep)?)),
+        Found::Parameter(parameter) => Ok(typed(leaf(alloc, Head::Parameter { parameter }, keep)?)),
         Found::Bound(value) => {
             let tree = copy_kept(alloc, &value.tree)?;
             Ok(Value {
@@ -100,14 +108,15 @@ fn inline_name(
     context: &Context,
     names: &Names,
 ) -> Result<Value<Option<Kept>>, AllocError>
-    ensures { IfOk result (λ value. value ≡ named_value keeping (inner_of (inner_at context.now names.now) text.now) (constants_in context.now text.now) (number_or (number_named (items_of context.now) text.now))) }
+    ensures { IfOk result (λ value. value ≡ named_value (keeping_as context.now.keep) (inner_of (inner_at context.now names.now) text.now) (constants_in context.now text.now) (number_or (number_named (items_of context.now) text.now))) }
 {
     match find(text, names, context) {
-        Some(found) => inline_found(alloc, found),
+        Some(found) => inline_found(alloc, found, context.keep),
         None => {
             let worth = constant(context, text);
             let item = number(context, text);
-            let tree = whole_or(alloc, worth, leaf(alloc, Head::Resource { item }));
+            let resource = leaf(alloc, Head::Resource { item }, context.keep)?;
+            let tree = whole_or(alloc, worth, resource, context.keep)?;
             Ok(Value { worth, tree })
         }
     }
@@ -115,7 +124,7 @@ fn inline_name(
 
 /// The body of the item of a number.
 fn body_at<'a>(bodies: &'a [Option<Kept>], number: Option<usize>) -> Option<&'a Option<Kept>>
-    ensures { kept_argument (option_copied result) ≡ value_at kept_missing bodies.now number }
+    ensures { (keep : AnyKeep) → kept_argument keep (option_copied result) ≡ value_at (kept_missing keep) bodies.now number }
 {
     match number {
         None => None,
@@ -130,11 +139,16 @@ fn inline_body(
     arguments: &[Option<Kept>],
     context: &Context,
 ) -> Result<Option<Kept>, AllocError>
-    ensures { IfOk result (λ tree. tree ≡ kept_call arguments.now ((known_in context.now).bodies text.now)) }
+    ensures { IfOk result (λ tree. tree ≡ kept_call context.now.keep arguments.now ((known_in context.now).bodies text.now)) }
 {
     match body_at(context.bodies, context.table.number(text)) {
-        None => call(alloc, arguments, &missing(alloc)),
-        Some(body) => call(alloc, arguments, body),
+        None => call(
+            alloc,
+            arguments,
+            &missing(alloc, context.keep)?,
+            context.keep,
+        ),
+        Some(body) => call(alloc, arguments, body, context.keep),
     }
 }
 
@@ -151,14 +165,14 @@ fn take_type(
     parameters: &[Parameter],
     position: usize,
     context: &Context,
-) -> Option<Kept>
-    ensures { result ≡ taken_at (parameter_type context.now) (slice_get parameters.now position) value }
+) -> Result<Option<Kept>, AllocError>
+    ensures { IfOk result (λ tree. tree ≡ taken_at context.now.keep (parameter_type context.now) (slice_get parameters.now position) value) }
 {
     match parameter_at(parameters, position) {
-        None => value.tree,
+        None => Ok(value.tree),
         Some(parameter) => {
             let declared = declared_type(&parameter.declared, context);
-            constant_or(alloc, declared, value.worth, value.tree)
+            constant_or(alloc, declared, value.worth, value.tree, context.keep)
         }
     }
 }
@@ -179,18 +193,17 @@ fn operate(
     operator: BinaryOperator,
     left: Value<Option<Kept>>,
     right: Value<Option<Kept>>,
+    keep: Keep,
 ) -> Result<Value<Option<Kept>>, AllocError>
     ensures worth { IfOk result (λ value. value.worth ≡ binary_whole operator left.worth right.worth) }
-    ensures tree { IfOk result (λ value. value.tree ≡ whole_or_of keeping (binary_whole operator left.worth right.worth) (kept_node (Binary operator) (left.tree ∷ right.tree ∷ []))) }
+    ensures tree { IfOk result (λ value. value.tree ≡ whole_or_of (keeping_as keep) (binary_whole operator left.worth right.worth) (kept_node keep (Binary operator) (left.tree ∷ right.tree ∷ []))) }
 {
     let worth = worth_of_binary(operator, left.worth, right.worth);
-    let parts = added(no_trees(alloc), left.tree)?;
-    let parts = added(parts, right.tree)?;
-    let tree = node(Head::Binary { operator }, parts);
-    Ok(Value {
-        worth,
-        tree: whole_or(alloc, worth, tree),
-    })
+    let parts = added(no_trees(alloc), left.tree, keep)?;
+    let parts = added(parts, right.tree, keep)?;
+    let tree = node(alloc, Head::Binary { operator }, parts, keep)?;
+    let tree = whole_or(alloc, worth, tree, keep)?;
+    Ok(Value { worth, tree })
 }
 
 /// An expression with everything in place of its names.
@@ -205,15 +218,7 @@ pub(crate) fn inline(
     ensures { IfOk result (λ value. value ≡ inlined_at context.now names.now e.now) }
 {
     match e {
-        Expr::Number { value, .. } => Ok(Value {
-            worth: Worth::Whole(*value),
-            tree: leaf(
-                alloc,
-                Head::Whole {
-                    value: Some(*value),
-                },
-            ),
-        }),
+        Expr::Number { value, .. } => inline_number(alloc, *value, context.keep),
         Expr::Name(name) => inline_name(alloc, name.text.as_slice(), context, names),
         Expr::Call { name, arguments } => {
             inline_call(alloc, name, arguments.as_slice(), context, names)
@@ -235,7 +240,7 @@ pub(crate) fn inline(
         Expr::Join { high, low, .. } => {
             let parts = inline_part(alloc, high.get(), no_trees(alloc), context, names)?;
             let parts = inline_part(alloc, low.get(), parts, context, names)?;
-            Ok(typed(node(Head::Join, parts)))
+            Ok(typed(node(alloc, Head::Join, parts, context.keep)?))
         }
         Expr::Parentheses { inner, .. } => inline(alloc, inner.get(), context, names),
         Expr::Unary {
@@ -256,7 +261,7 @@ pub(crate) fn inline(
         } => {
             let left = inline(alloc, left.get(), context, names)?;
             let right = inline(alloc, right.get(), context, names)?;
-            operate(alloc, *operator, left, right)
+            operate(alloc, *operator, left, right, context.keep)
         }
         Expr::Cast {
             operand,
@@ -289,7 +294,7 @@ pub(crate) fn inline(
             let parts = inline_part(alloc, condition.get(), no_trees(alloc), context, names)?;
             let parts = inline_part(alloc, then.get(), parts, context, names)?;
             let parts = inline_part(alloc, otherwise.get(), parts, context, names)?;
-            Ok(typed(node(Head::If, parts)))
+            Ok(typed(node(alloc, Head::If, parts, context.keep)?))
         }
         Expr::Let {
             name,
@@ -317,13 +322,13 @@ pub(crate) fn inline_part(
     context: &Context,
     names: &Names,
 ) -> Result<Option<KeptList>, AllocError>
-    ensures { IfOk result (λ longer. longer ≡ added_of parts (tree_at context.now names.now e.now)) }
+    ensures { IfOk result (λ longer. longer ≡ added_of context.now.keep parts (tree_at context.now names.now e.now)) }
 {
     match parts {
         None => Ok(None),
         Some(parts) => {
             let value = inline(alloc, e, context, names)?;
-            added(Some(parts), value.tree)
+            added(Some(parts), value.tree, context.keep)
         }
     }
 }
@@ -337,10 +342,10 @@ fn inline_one(
     context: &Context,
     names: &Names,
 ) -> Result<Value<Option<Kept>>, AllocError>
-    ensures { IfOk result (λ value. value ≡ typed_of (kept_node head (tree_at context.now names.now part.now ∷ []))) }
+    ensures { IfOk result (λ value. value ≡ typed_of (kept_node context.now.keep head (tree_at context.now names.now part.now ∷ []))) }
 {
     let parts = inline_part(alloc, part, no_trees(alloc), context, names)?;
-    Ok(typed(node(head, parts)))
+    Ok(typed(node(alloc, head, parts, context.keep)?))
 }
 
 /// The type of a cast.
@@ -375,7 +380,7 @@ fn inline_call(
     context: &Context,
     names: &Names,
 ) -> Result<Value<Option<Kept>>, AllocError>
-    ensures { IfOk result (λ value. value ≡ typed_of (called keeping (items_of context.now) (known_in context.now) (callee_of (inner_of (inner_at context.now names.now) name.now.text) (item_named (items_of context.now) name.now.text)) name.now (first_start_of name.now.at (map start_of_expression arguments.now)) (map (inlined_at context.now names.now) arguments.now))) }
+    ensures { IfOk result (λ value. value ≡ typed_of (called (keeping_as context.now.keep) (items_of context.now) (known_in context.now) (callee_of (inner_of (inner_at context.now names.now) name.now.text) (item_named (items_of context.now) name.now.text)) name.now (first_start_of name.now.at (map start_of_expression arguments.now)) (map (inlined_at context.now names.now) arguments.now))) }
 {
     match function_called(name.text.as_slice(), names, context) {
         Some(parameters) => {
@@ -390,7 +395,8 @@ fn inline_call(
                 at: name.at,
                 index_at: first_start(name.at, arguments),
             };
-            Ok(typed(node(head, list)))
+            let register = node(alloc, head, list, context.keep)?;
+            Ok(typed(register))
         }
     }
 }
@@ -404,12 +410,12 @@ fn inline_arguments(
     context: &Context,
     names: &Names,
 ) -> Result<Items<Option<Kept>>, AllocError>
-    ensures { IfOk result (λ list. list ≡ taking_types keeping (parameter_type context.now) parameters.now (map (inlined_at context.now names.now) arguments.now)) }
+    ensures { IfOk result (λ list. list ≡ taking_types (keeping_as context.now.keep) (parameter_type context.now) parameters.now (map (inlined_at context.now names.now) arguments.now)) }
 {
     let mut list = Items::new(alloc);
     for (position, argument) in arguments.iter().enumerate() {
         let value = inline(alloc, argument, context, names)?;
-        let tree = take_type(alloc, value, parameters, position, context);
+        let tree = take_type(alloc, value, parameters, position, context)?;
         list.push(tree)?;
     }
     Ok(list)
@@ -423,7 +429,7 @@ fn inline_all(
     context: &Context,
     names: &Names,
 ) -> Result<Option<KeptList>, AllocError>
-    ensures { IfOk result (λ list. list ≡ gathered no_trees_of (map (tree_at context.now names.now) arguments.now)) }
+    ensures { IfOk result (λ list. list ≡ gathered context.now.keep no_trees_of (map (tree_at context.now names.now) arguments.now)) }
 {
     let mut list = no_trees(alloc);
     for argument in arguments {

@@ -1,27 +1,27 @@
 //! What instructions do.
-ghost use Rattle.std.specs.Prelude.{◌≡◌, List, map, IfOk};
+ghost use Rattle.std.specs.Prelude.{◌≡◌, ◌≤◌, true, List, IfOk};
+ghost use Rattle.std.specs.List.{list_all};
 ghost use Rattle.vg_ast.specs.declared.parameter.Parameter.{Parameter as AnyParameter};
 ghost use Rattle.vg_names.specs.Definition.{fields_of_format, item_named};
 ghost use Rattle.vg_names.specs.First.{first_of};
 ghost use Rattle.vg_names.specs.Unknown.{in_each};
 ghost use Rattle.vg_inline.specs.Inline.{field_values};
-ghost use Rattle.vg_inline.specs.Kept.{keeping};
+ghost use Rattle.vg_inline.specs.Kept.{keeping_as};
 ghost use Rattle.vg_inline.specs.Context.{inner_in, items_of, known_in};
-ghost use Rattle.vg_inline.specs.KeptBehaviour.{behaviour_kept, effect_kept, instruction_kept, item_kept_excess};
+ghost use Rattle.vg_inline.specs.KeptBehaviour.{behaviour_kept, effect_kept, instruction_kept, item_fits, item_kept_excess};
 
 use crate::Effect;
 use crate::context::Context;
 use crate::kept::KeptEffect;
 use crate::names::Names;
 use crate::stating::state;
-use sqlite_items::Items;
 use std::alloc::{AllocError, Global};
 use vg_ast::{Item, Name, Statement};
 
 /// The fields of a format of this name.
 #[tactic(auto, using(crate::proofs::FieldLemmas::format_missing, crate::proofs::FieldLemmas::format_found))]
 fn fields_in(format: &Name, context: &Context) -> Names<'static>
-    ensures { (parameters : List AnyParameter) → inner_in (items_of context.now) parameters result ≡ field_values keeping 0 (fields_of_format (item_named (items_of context.now) format.now.text)) }
+    ensures { (parameters : List AnyParameter) → inner_in context.now.keep (items_of context.now) parameters result ≡ field_values (keeping_as context.now.keep) 0 (fields_of_format (item_named (items_of context.now) format.now.text)) }
 {
     match context.table.number(format.text.as_slice()) {
         None => Names::Nothing,
@@ -36,7 +36,7 @@ fn instruction(
     behaviour: &Statement,
     context: &Context,
 ) -> Result<Option<KeptEffect>, AllocError>
-    ensures { IfOk result (λ effect. effect ≡ instruction_kept (items_of context.now) (known_in context.now) format.now behaviour.now) }
+    ensures { IfOk result (λ effect. effect ≡ instruction_kept context.now.keep (items_of context.now) (known_in context.now) format.now behaviour.now) }
 {
     let names = fields_in(format, context);
     state(alloc, behaviour, context, &names)
@@ -44,7 +44,7 @@ fn instruction(
 
 /// The place of the name of an item, where it is an instruction that has too many nodes.
 fn item_excess(alloc: Global, item: &Item, context: &Context) -> Result<Option<usize>, AllocError>
-    ensures { IfOk result (λ found. found ≡ first_of (item_kept_excess (items_of context.now) (known_in context.now) item.now)) }
+    ensures { IfOk result (λ found. found ≡ first_of (item_kept_excess context.now.keep (items_of context.now) (known_in context.now) item.now)) }
 {
     match item {
         Item::Instruction {
@@ -64,7 +64,7 @@ fn item_excess(alloc: Global, item: &Item, context: &Context) -> Result<Option<u
 /// made.
 #[tactic(auto, using(vg_names::proofs::FirstLemmas::first_steps))]
 pub fn first_excess(alloc: Global, context: &Context) -> Result<Option<usize>, AllocError>
-    ensures { IfOk result (λ found. found ≡ first_of (in_each (item_kept_excess (items_of context.now) (known_in context.now)) (items_of context.now))) }
+    ensures { IfOk result (λ found. found ≡ first_of (in_each (item_kept_excess context.now.keep (items_of context.now) (known_in context.now)) (items_of context.now))) }
 {
     for item in context.table.items {
         if let Some(at) = item_excess(alloc, item, context)? {
@@ -84,12 +84,12 @@ fn effect_of(kept: Option<KeptEffect>) -> Option<Effect>
 }
 
 /// What an item does, where it is an instruction that doesn't have too many nodes.
-pub fn behaviour(
+pub fn behaviour_in(
     alloc: Global,
     item: &Item,
     context: &Context,
 ) -> Result<Option<Effect>, AllocError>
-    ensures { IfOk result (λ effect. effect ≡ behaviour_kept (items_of context.now) (known_in context.now) item.now) }
+    ensures { IfOk result (λ effect. effect ≡ behaviour_kept context.now.keep (items_of context.now) (known_in context.now) item.now) }
 {
     match item {
         Item::Instruction {
@@ -104,13 +104,32 @@ pub fn behaviour(
     }
 }
 
-/// What each item does, where it is an instruction that doesn't have too many nodes.
-pub fn behaviours(alloc: Global, context: &Context) -> Result<Items<Option<Effect>>, AllocError>
-    ensures { IfOk result (λ effects. effects ≡ map (behaviour_kept (items_of context.now) (known_in context.now)) (items_of context.now)) }
+/// So many nodes, or as many as an item has, where it is an instruction and has more.
+fn greater(alloc: Global, item: &Item, most: usize, context: &Context) -> Result<usize, AllocError>
+    ensures fits { let x = context.now in IfOk result (λ next. item_fits x.keep (items_of x) (known_in x) next item.now ≡ true) }
+    ensures grows { IfOk result (λ next. most ≤ next) }
 {
-    let mut effects = Items::new(alloc);
-    for item in context.table.items {
-        effects.push(behaviour(alloc, item, context)?)?;
+    match item {
+        Item::Instruction {
+            format,
+            behaviour,
+            ..
+        } => match instruction(alloc, format, behaviour.get(), context)? {
+            None => Ok(most),
+            Some(kept) => Ok(most.max(kept.nodes)),
+        },
+        _ => Ok(most),
     }
-    Ok(effects)
+}
+
+/// How many nodes the greatest instruction has, of those of which anything is kept.
+#[tactic(auto, using(crate::proofs::Greatest::fitting_more, crate::proofs::Greatest::fitting_all))]
+pub(crate) fn greatest(alloc: Global, context: &Context) -> Result<usize, AllocError>
+    ensures { let x = context.now in IfOk result (λ most. list_all (item_fits x.keep (items_of x) (known_in x) most) (items_of x) ≡ true) }
+{
+    let mut most = 0;
+    for item in context.table.items {
+        most = greater(alloc, item, most, context)?;
+    }
+    Ok(most)
 }

@@ -2,12 +2,13 @@
 ghost use Rattle.std.specs.Prelude.{◌≡◌, ◌+◌, map, IfOk};
 ghost use Rattle.vg_ast.specs.Start.{start_of as start_of_expression};
 ghost use Rattle.vg_inline.specs.Behaviour.{target_of, target_parts};
-ghost use Rattle.vg_inline.specs.Kept.{added_effect as added_effect_of, assign_over, block_over, gathered, gathered_effects, keeping, kept_effect, kept_if, kept_if_else, no_effects as no_effects_of, no_trees as no_trees_of};
+ghost use Rattle.vg_inline.specs.Kept.{added_effect as added_effect_of, assign_over, block_over, gathered, gathered_effects, keeping_as, kept_effect, kept_if, kept_if_else, no_effects as no_effects_of, no_trees as no_trees_of, shown_effect as shown_effect_of};
 ghost use Rattle.vg_inline.specs.Context.{effect_at, inner_at, items_of, known_in, tree_at};
 
 use crate::context::{Context, number};
 use crate::inlining::{inline, inline_part};
-use crate::keeping::{MOST_NODES, no_trees};
+use crate::keep::Keep;
+use crate::keeping::no_trees;
 use crate::kept::{Kept, KeptEffect, KeptEffects, KeptList};
 use crate::names::Names;
 use crate::{Effect, Target};
@@ -28,13 +29,14 @@ fn no_effects(alloc: Global) -> Option<KeptEffects>
 fn added_effect(
     list: Option<KeptEffects>,
     effect: Option<KeptEffect>,
+    keep: Keep,
 ) -> Result<Option<KeptEffects>, AllocError>
-    ensures { IfOk result (λ longer. longer ≡ added_effect_of list effect) }
+    ensures { IfOk result (λ longer. longer ≡ added_effect_of keep list effect) }
 {
     match (list, effect) {
         (Some(mut list), Some(effect)) => {
             let nodes = list.nodes.saturating_add(effect.nodes);
-            if nodes > MOST_NODES {
+            if nodes > usize::from(keep.most) {
                 return Ok(None);
             }
             list.effects.push(effect.effect)?;
@@ -45,29 +47,53 @@ fn added_effect(
     }
 }
 
-/// Keeps a statement of so many nodes, unless they are too many.
-fn keep_effect(first: usize, second: usize, effect: Effect) -> Option<KeptEffect>
-    ensures { result ≡ kept_effect (first + second) effect }
+/// A statement, or an empty block where trees aren't kept.
+fn shown_effect(alloc: Global, effect: Effect, keep: Keep) -> Effect
+    ensures { result ≡ shown_effect_of keep effect }
 {
-    let nodes = first.saturating_add(second);
-    if nodes > MOST_NODES {
-        None
+    if keep.trees {
+        effect
     } else {
-        Some(KeptEffect { effect, nodes })
+        Effect::Block {
+            effects: Items::new(alloc),
+        }
     }
 }
 
-fn block(effects: Option<KeptEffects>) -> Option<KeptEffect>
-    ensures { result ≡ block_over effects }
+/// Keeps a statement of so many nodes, unless they are too many.
+fn keep_effect(
+    alloc: Global,
+    first: usize,
+    second: usize,
+    effect: Effect,
+    keep: Keep,
+) -> Option<KeptEffect>
+    ensures { result ≡ kept_effect keep (first + second) effect }
+{
+    let nodes = first.saturating_add(second);
+    if nodes > usize::from(keep.most) {
+        None
+    } else {
+        Some(KeptEffect {
+            effect: shown_effect(alloc, effect, keep),
+            nodes,
+        })
+    }
+}
+
+fn block(alloc: Global, effects: Option<KeptEffects>, keep: Keep) -> Option<KeptEffect>
+    ensures { result ≡ block_over keep effects }
 {
     match effects {
         None => None,
         Some(list) => keep_effect(
+            alloc,
             list.nodes,
             0,
             Effect::Block {
                 effects: list.effects,
             },
+            keep,
         ),
     }
 }
@@ -77,8 +103,9 @@ fn choice_alone(
     condition_at: usize,
     condition: Option<Kept>,
     then: Option<KeptEffect>,
+    keep: Keep,
 ) -> Result<Option<KeptEffect>, AllocError>
-    ensures { IfOk result (λ it. it ≡ kept_if condition_at condition then) }
+    ensures { IfOk result (λ it. it ≡ kept_if keep condition_at condition then) }
 {
     match (condition, then) {
         (Some(condition), Some(then)) => {
@@ -90,7 +117,7 @@ fn choice_alone(
                 then,
                 otherwise: None,
             };
-            Ok(keep_effect(1, nodes, effect))
+            Ok(keep_effect(alloc, 1, nodes, effect, keep))
         }
         _ => Ok(None),
     }
@@ -102,8 +129,9 @@ fn choice(
     condition: Option<Kept>,
     then: Option<KeptEffect>,
     otherwise: Option<KeptEffect>,
+    keep: Keep,
 ) -> Result<Option<KeptEffect>, AllocError>
-    ensures { IfOk result (λ it. it ≡ kept_if_else condition_at condition then otherwise) }
+    ensures { IfOk result (λ it. it ≡ kept_if_else keep condition_at condition then otherwise) }
 {
     match (condition, then, otherwise) {
         (Some(condition), Some(then), Some(otherwise)) => {
@@ -117,22 +145,25 @@ fn choice(
                 then,
                 otherwise: Some(otherwise),
             };
-            Ok(keep_effect(1, nodes, effect))
+            Ok(keep_effect(alloc, 1, nodes, effect, keep))
         }
         _ => Ok(None),
     }
 }
 
 fn assign(
+    alloc: Global,
     target: Target,
     parts: Option<KeptList>,
     value_at: usize,
     value: Option<Kept>,
+    keep: Keep,
 ) -> Option<KeptEffect>
-    ensures { result ≡ assign_over target parts value_at value }
+    ensures { result ≡ assign_over keep target parts value_at value }
 {
     match (parts, value) {
         (Some(parts), Some(value)) => keep_effect(
+            alloc,
             parts.nodes,
             value.nodes,
             Effect::Assign {
@@ -141,6 +172,7 @@ fn assign(
                 value_at,
                 value: value.tree,
             },
+            keep,
         ),
         _ => None,
     }
@@ -153,7 +185,7 @@ fn state_target(
     context: &Context,
     names: &Names,
 ) -> Result<Target, AllocError>
-    ensures { IfOk result (λ target. target ≡ target_of keeping (items_of context.now) (known_in context.now) goal.now (inner_at context.now names.now)) }
+    ensures { IfOk result (λ target. target ≡ target_of (keeping_as context.now.keep) (items_of context.now) (known_in context.now) goal.now (inner_at context.now names.now)) }
 {
     match goal {
         Goal::Name(name) => Ok(Target::Resource {
@@ -188,7 +220,7 @@ fn state_parts(
     context: &Context,
     names: &Names,
 ) -> Result<Option<KeptList>, AllocError>
-    ensures { IfOk result (λ parts. parts ≡ gathered no_trees_of (target_parts keeping (items_of context.now) (known_in context.now) goal.now (inner_at context.now names.now))) }
+    ensures { IfOk result (λ parts. parts ≡ gathered context.now.keep no_trees_of (target_parts (keeping_as context.now.keep) (items_of context.now) (known_in context.now) goal.now (inner_at context.now names.now))) }
 {
     match goal {
         Goal::Name(_) => Ok(no_trees(alloc)),
@@ -209,13 +241,13 @@ fn state_assign(
     context: &Context,
     names: &Names,
 ) -> Result<Option<KeptEffect>, AllocError>
-    ensures { IfOk result (λ effect. effect ≡ assign_over (target_of keeping (items_of context.now) (known_in context.now) goal.now (inner_at context.now names.now)) (gathered no_trees_of (target_parts keeping (items_of context.now) (known_in context.now) goal.now (inner_at context.now names.now))) (start_of_expression value.now) (tree_at context.now names.now value.now)) }
+    ensures { IfOk result (λ effect. effect ≡ assign_over context.now.keep (target_of (keeping_as context.now.keep) (items_of context.now) (known_in context.now) goal.now (inner_at context.now names.now)) (gathered context.now.keep no_trees_of (target_parts (keeping_as context.now.keep) (items_of context.now) (known_in context.now) goal.now (inner_at context.now names.now))) (start_of_expression value.now) (tree_at context.now names.now value.now)) }
 {
     let target = state_target(alloc, goal, context, names)?;
     let parts = state_parts(alloc, goal, context, names)?;
     let value_at = start_of(value);
     let value = inline(alloc, value, context, names)?;
-    Ok(assign(target, parts, value_at, value.tree))
+    Ok(assign(alloc, target, parts, value_at, value.tree, context.keep))
 }
 
 /// A statement with everything in place of its names; None where it has too many nodes.
@@ -232,7 +264,7 @@ pub(crate) fn state(
     match statement {
         Statement::Block { statements, .. } => {
             let effects = state_all(alloc, statements.as_slice(), context, names)?;
-            Ok(block(effects))
+            Ok(block(alloc, effects, context.keep))
         }
         Statement::Let {
             name,
@@ -258,10 +290,17 @@ pub(crate) fn state(
             let condition = inline(alloc, condition.get(), context, names)?;
             let then = state(alloc, then.get(), context, names)?;
             match otherwise {
-                None => choice_alone(alloc, condition_at, condition.tree, then),
+                None => choice_alone(alloc, condition_at, condition.tree, then, context.keep),
                 Some(other) => {
                     let other = state(alloc, other.get(), context, names)?;
-                    choice(alloc, condition_at, condition.tree, then, other)
+                    choice(
+                        alloc,
+                        condition_at,
+                        condition.tree,
+                        then,
+                        other,
+                        context.keep,
+                    )
                 }
             }
         }
@@ -280,13 +319,13 @@ fn state_next(
     context: &Context,
     names: &Names,
 ) -> Result<Option<KeptEffects>, AllocError>
-    ensures { IfOk result (λ longer. longer ≡ added_effect_of effects (effect_at context.now names.now statement.now)) }
+    ensures { IfOk result (λ longer. longer ≡ added_effect_of context.now.keep effects (effect_at context.now names.now statement.now)) }
 {
     match effects {
         None => Ok(None),
         Some(effects) => {
             let effect = state(alloc, statement, context, names)?;
-            added_effect(Some(effects), effect)
+            added_effect(Some(effects), effect, context.keep)
         }
     }
 }
@@ -299,7 +338,7 @@ fn state_all(
     context: &Context,
     names: &Names,
 ) -> Result<Option<KeptEffects>, AllocError>
-    ensures { IfOk result (λ effects. effects ≡ gathered_effects no_effects_of (map (effect_at context.now names.now) statements.now)) }
+    ensures { IfOk result (λ effects. effects ≡ gathered_effects context.now.keep no_effects_of (map (effect_at context.now names.now) statements.now)) }
 {
     let mut effects = no_effects(alloc);
     for statement in statements {

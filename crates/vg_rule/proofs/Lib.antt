@@ -1,2 +1,2 @@
 pub mod Asking
-mod First
+pub mod First

@@ -1,9 +1,12 @@
 pub mod Described
 pub mod Digits
 pub mod Driving
+pub mod EachText
+pub mod FormFits
 pub mod Meeting
 pub mod MemoryLines
 pub mod Names
+pub mod ImageLines
 pub mod OneAnswer
 pub mod OneDescription
 pub mod OneReason

@@ -8,7 +8,7 @@ use Rattle.vg_image.specs.declared.ending.Ending.{Ending}
 use Rattle.vg_image.specs.declared.ending.Ending.TheVariants as ending
 use Rattle.vg_image.specs.Run.{run_of}
 use Rattle.vg_image.specs.State.{first_state}
-use Rattle.vg_image.proofs.Images.{same_image}
+use Rattle.vg_image.proofs.Images.{same_image, same_line}
 use Rattle.vg_top.specs.declared.needs.Needs.{Needs}
 use Rattle.vg_top.specs.declared.reason.Reason.{Reason}
 use Rattle.vg_top.specs.declared.status.Status.{Status}
@@ -22,7 +22,7 @@ use Rattle.vg_top.specs.Description.{IsDescription}
 use Rattle.vg_top.specs.Needs.{nothing_more}
 use Rattle.vg_top.specs.Reading.{description_limit, image_limit, WithDescription, WithImage}
 use Rattle.vg_top.specs.Reason.{reason_line}
-use Rattle.vg_top.specs.Refusal.{too_long, usage_line}
+use Rattle.vg_top.specs.Refusal.{image_refused, not_built, too_long, usage_line}
 use Rattle.vg_top.specs.Reports.Check.{check_report}
 use Rattle.vg_top.specs.Reports.Run.{run_report, run_status}
 use Rattle.vg_top.proofs.OneDescription.{one_description}
@@ -35,7 +35,7 @@ pub record IsOne (P : Answers) : Type 0 where
 
 one_only : (s : Status) (text : List ℕ) → s ≢ status.ReadFault → IsOne (Only s text)
 one_only s text other = record {
-  one = λ a b x y f. (x.0 ∙ sym y.0, x.1 ∙ sym y.1, inl (x.2 ∙ sym y.2));
+  one = λ a b x y f. (x.0 ∙ sym y.0, x.1 ∙ sym y.1, x.2 ∙ sym y.2);
   begins = λ a x e none. other (sym x.1 ∙ e);
 }
 
@@ -76,7 +76,7 @@ module _ (held : Held) (name : List ℕ) (limit : ℕ) (next : List ℕ → Answ
   behind a b more others x y (inr f) = inr (f.0, f.1, omega (arith, ap length x, ap length y, f.2))
 
   file_one : (a b : Answer) → WithFile held name limit next a → WithFile held name limit next b → FailAlike a b → Agree a b
-  file_one a b (inl x) (inl y) f = (x.0 ∙ sym y.0, x.1 ∙ sym y.1, inl (x.2 ∙ sym y.2))
+  file_one a b (inl x) (inl y) f = (x.0 ∙ sym y.0, x.1 ∙ sym y.1, x.2 ∙ sym y.2)
   file_one a b (inl x) (inr (more, y, w)) f = absurd (apart a b more x.0 x.1 y w f)
   file_one a b (inr (more, x, w)) (inl y) f = absurd (apart b a more y.0 y.1 x w (turned a b f))
   file_one a b (inr (more, x, w)) (inr (others, y, v)) f =
@@ -97,7 +97,7 @@ module _ (bytes : List ℕ) (needs : Needs) (next : Parts → Answers) (h : (d :
   text_one a b (inr (r, is, x)) (inl (e, js, m, y)) f = absurd (described_or_refused bytes needs e r js m is)
   text_one a b (inr (r, is, x)) (inr (s, js, y)) f =
       let same : s ≡ r = same_reason bytes needs r s (one_reason bytes needs r s is js) in
-      (x.0 ∙ sym y.0, x.1 ∙ sym y.1, inl (x.2 ∙ sym (ap (reason_line bytes) same) ∙ sym y.2))
+      (x.0 ∙ sym y.0, x.1 ∙ sym y.1, x.2 ∙ sym (ap (reason_line bytes) same) ∙ sym y.2)
 
   text_begins : (a : Answer) → WithDescription bytes needs next a → a.status ≡ status.ReadFault → a.asked ≢ []
   text_begins a (inl (d, is, l, x)) e = (h d is).begins a x e
@@ -109,13 +109,15 @@ module _ (bytes : List ℕ) (needs : Needs) (next : Parts → Answers) (h : (d :
 module _ (d : Parts) (accepted : IsTrue (is_isa d)) (bytes : List ℕ) (next : Image → Answers) (h : (i : Image) → IsOne (next i)) where
   image_one : (a b : Answer) → WithImage d bytes next a → WithImage d bytes next b → FailAlike a b → Agree a b
   image_one a b (inl (i, is, x)) (inl (j, js, y)) f = (h i).one a b x (subst (λ (k : Image). next k b) (same_image d bytes j i accepted js is) y) f
-  image_one a b (inl (i, is, x)) (inr (none, (l, y))) f = absurd (none i is)
-  image_one a b (inr (none, (l, x))) (inl (j, js, y)) f = absurd (none j js)
-  image_one a b (inr (none, (l, x))) (inr (other, (m, y))) f = (x.0 ∙ sym y.0, x.1 ∙ sym y.1, inr (bytes, l, m, x.2, y.2))
+  image_one a b (inl (i, is, x)) (inr (l, js, y)) f = absurd (js.no_image i is)
+  image_one a b (inr (l, is, x)) (inl (j, js, y)) f = absurd (is.no_image j js)
+  image_one a b (inr (l, is, x)) (inr (m, js, y)) f =
+      let same : l ≡ m = same_line d bytes l m is js in
+      (x.0 ∙ sym y.0, x.1 ∙ sym y.1, x.2 ∙ ap image_refused same ∙ sym y.2)
 
   image_begins : (a : Answer) → WithImage d bytes next a → a.status ≡ status.ReadFault → a.asked ≢ []
   image_begins a (inl (i, is, x)) e = (h i).begins a x e
-  image_begins a (inr (none, (l, x))) e = λ empty. let d : status.Refused ≡ status.ReadFault = sym x.1 ∙ e in cc
+  image_begins a (inr (l, is, x)) e = λ empty. let d : status.Refused ≡ status.ReadFault = sym x.1 ∙ e in cc
 
   one_image : IsOne (WithImage d bytes next)
   one_image = record { one = image_one; begins = image_begins }
@@ -138,12 +140,17 @@ one_report : (d : Parts) (bound : ℕ) (i : Image) → IsOne (run.Reports d i bo
 one_report d bound i =
     let r = run_of d i bound (first_state d i) in one_only (run_status r.ending) (run_report d i r) (no_fault r.ending)
 
+one_bare : (d : Parts) (bound : ℕ) (i : Image) → IsOne (run.BareReports d bound i)
+one_bare d bound i =
+    let line : List ℕ = not_built (run.unbuilt_line i, 1) in
+    one_bool (run.is_bare i) (run.Reports d i bound) (Refuses line) (one_report d bound i) (one_only status.Refused line (λ e. cc))
+
 one_run : (words : run.Run) (held : Held) → IsOne ((run.plan words).answers held)
 one_run words held =
     one_file held words.description description_limit (run.RunAnswers words held)
     (λ bytes. one_text bytes nothing_more (λ d. WithFile held words.image image_limit (run.ImageAnswers d words.bound))
     (λ d is. one_file held words.image image_limit (run.ImageAnswers d words.bound)
-    (λ text. one_image d is.accepts text (λ i. run.Reports d i words.bound) (one_report d words.bound))))
+    (λ text. one_image d is.accepts text (run.BareReports d words.bound) (one_bare d words.bound))))
 
 -- ---- the list of commands
 

@@ -1,5 +1,5 @@
 -- A text is the description of one processor, or breaks one rule first, or isn't built at one place.
-use Rattle.std.proofs.Common.{◌≡◌, ◌⊎◌, inl, inr, ℕ, List, refl, sym, ap, subst, ◌∙◌}
+use Rattle.std.proofs.Common.{◌≡◌, ◌⊎◌, inl, inr, ℕ, List, Some, None, sym, ap, subst, ◌∙◌}
 use Rattle.vg_tok.specs.declared.token.Token.{Token}
 use Rattle.vg_tok.proofs.Unique.{tokens_once, first_fault_once, tokens_or_fault}
 use Rattle.vg_ast.specs.declared.desc.Desc.{Desc}
@@ -7,17 +7,14 @@ use Rattle.vg_ast.specs.Description.{Reads}
 use Rattle.vg_ast.specs.Leaving.{LeavesAt}
 use Rattle.vg_parse.proofs.Readers.{readers}
 use Rattle.vg_parse.proofs.Place.{tree_once, place_once, not_both}
-use Rattle.vg_const.specs.declared.fault.DescFault.{DescFault}
-use Rattle.vg_const.specs.declared.fault.DescFault.TheVariants as faults
-use Rattle.vg_const.specs.Rules.{IsAccepted, Breaks}
+use Rattle.vg_rule.specs.declared.breach.Breach.{Breach}
+use Rattle.vg_inline.specs.Rules.{IsAccepted, breach_of}
 use Rattle.vg_inline.specs.InPlace.{known_of}
-use Rattle.vg_const.proofs.OneAnswer as folding
 use Rattle.vg_isa.specs.declared.isa.Parts.{Parts}
 use Rattle.vg_form.specs.declared.form.Form.{Form}
 use Rattle.vg_form.specs.Form.{parts_of}
 use Rattle.vg_form.specs.Description.{Found, form_of, found, unlike}
-use Rattle.vg_top.specs.declared.rule.Rule.{Rule}
-use Rattle.vg_top.specs.declared.rule.Rule.TheVariants as rules
+use Rattle.vg_rule.specs.declared.rule.Rule.{Rule}
 use Rattle.vg_top.specs.Description.{HasTree, IsDescription, IsUnbuilt, IsSyntaxFault, BreaksFirst, IsBroken, place_of}
 
 -- the form that was found
@@ -33,14 +30,14 @@ abbrev is_found : Found Form → Type 0
 is_found (found form) = Unit {0}
 is_found (unlike at) = ⊥
 
--- the rule and the place of a fault
-abbrev rule_at : DescFault → Rule × ℕ
-rule_at (faults.Duplicate at) = (rules.Duplicate, at)
-rule_at (faults.Unknown at) = (rules.Unknown, at)
-rule_at (faults.Cyclic at) = (rules.Cyclic, at)
-rule_at (faults.Overflow at) = (rules.Overflow, at)
-rule_at (faults.Limit at) = (rules.Limit, at)
-rule_at faults.OutOfMemory = (rules.Syntax, 0)
+abbrev breach : Rule → ℕ → Breach
+breach rule at = record { rule = rule; at = at }
+
+some_same : {a b : Breach} → Some a ≡ Some b → a ≡ b
+some_same h = cc
+
+never : {a : Breach} → None ≡ Some a → ⊥
+never h = absurd (cc)
 
 module _ (bytes : List ℕ) where
   one_tree : (s t : Desc) → HasTree bytes s → HasTree bytes t → s ≡ t
@@ -59,40 +56,21 @@ module _ (bytes : List ℕ) where
   one_syntax a b (inr (tokens, lexes, leaves)) (inr (others, also, behind)) =
       place_once readers tokens a b leaves (subst (λ (ts : List Token). LeavesAt ts b) (tokens_once bytes others tokens also lexes) behind)
 
-  one_fault : (f g : DescFault) → BreaksFirst bytes f → BreaksFirst bytes g → f ≡ g
-  one_fault f g (s, a, x) (t, b, y) = folding.one_fault s f g x (subst (λ (d : Desc). Breaks d g) (one_tree t s b a) y)
+  one_breach : (a b : Breach) → BreaksFirst bytes a → BreaksFirst bytes b → a ≡ b
+  one_breach a b (s, x, e) (t, y, d) = some_same (sym e ∙ ap breach_of (one_tree s t x y) ∙ d)
 
-  -- a rule that is broken is that of the grammar, or one of a tree
-  abbrev Split : Rule → ℕ → Type 0
-  Split rule at = (IsSyntaxFault bytes at × (rule ≡ rules.Syntax)) ⊎ ((f : DescFault) × BreaksFirst bytes f × (rule_at f ≡ (rule, at)))
-
-  split : (rule : Rule) (at : ℕ) → IsBroken bytes rule at → Split rule at
-  split rules.Syntax at h = inl (h, refl)
-  split rules.Duplicate at h = inr (faults.Duplicate at, h, refl)
-  split rules.Unknown at h = inr (faults.Unknown at, h, refl)
-  split rules.Cyclic at h = inr (faults.Cyclic at, h, refl)
-  split rules.Overflow at h = inr (faults.Overflow at, h, refl)
-  split rules.AbiRole at h = absurd h
-  split rules.StageOrder at h = absurd h
-  split rules.Limit at h = inr (faults.Limit at, h, refl)
-
-  one_split : (r s : Rule) (a b : ℕ) → Split r a → Split s b → (r ≡ s) × (a ≡ b)
-  one_split r s a b (inl (x, e)) (inl (y, d)) = (e ∙ sym d, one_syntax a b x y)
-  one_split r s a b (inl (x, e)) (inr (g, (t, has, y), d)) = absurd (tree_or_syntax t a has x)
-  one_split r s a b (inr (f, (t, has, x), e)) (inl (y, d)) = absurd (tree_or_syntax t b has y)
-  one_split r s a b (inr (f, x, e)) (inr (g, y, d)) =
-      let same : (r, a) ≡ (s, b) = sym e ∙ ap rule_at (one_fault f g x y) ∙ d in (ap (λ (p : Rule × ℕ). p.0) same, ap (λ (p : Rule × ℕ). p.1) same)
+  same_breach : (r s : Rule) (a b : ℕ) → breach r a ≡ breach s b → (r ≡ s) × (a ≡ b)
+  same_breach r s a b e = (ap (λ (x : Breach). x.rule) e, ap (λ (x : Breach). x.at) e)
 
   pub one_broken : (r s : Rule) (a b : ℕ) → IsBroken bytes r a → IsBroken bytes s b → (r ≡ s) × (a ≡ b)
-  one_broken r s a b x y = one_split r s a b (split r a x) (split s b y)
-
-  accepted_or_split : (t : Desc) (r : Rule) (a : ℕ) → HasTree bytes t → IsAccepted t → Split r a → ⊥
-  accepted_or_split t r a has accepted (inl (x, e)) = tree_or_syntax t a has x
-  accepted_or_split t r a has accepted (inr (f, (s, also, x), e)) =
-      folding.not_both t f (subst (λ (d : Desc). Breaks d f) (one_tree s t also has) x) accepted
+  one_broken r s a b (inl (e, x)) (inl (d, y)) = (e ∙ sym d, one_syntax a b x y)
+  one_broken r s a b (inl (e, x)) (inr (t, has, y)) = absurd (tree_or_syntax t a has x)
+  one_broken r s a b (inr (t, has, x)) (inl (d, y)) = absurd (tree_or_syntax t b has y)
+  one_broken r s a b (inr x) (inr y) = same_breach r s a b (one_breach (breach r a) (breach s b) x y)
 
   accepted_or_broken : (t : Desc) (r : Rule) (a : ℕ) → HasTree bytes t → IsAccepted t → IsBroken bytes r a → ⊥
-  accepted_or_broken t r a has accepted x = accepted_or_split t r a has accepted (split r a x)
+  accepted_or_broken t r a has accepted (inl (e, x)) = tree_or_syntax t a has x
+  accepted_or_broken t r a has accepted (inr (s, also, x)) = never (sym accepted ∙ ap breach_of (one_tree t s has also) ∙ x)
 
   pub described_or_broken : (d : Parts) (r : Rule) (a : ℕ) → IsDescription bytes d → IsBroken bytes r a → ⊥
   described_or_broken d r a h x = accepted_or_broken h.tree r a h.has_tree h.accepted x

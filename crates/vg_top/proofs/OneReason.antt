@@ -4,7 +4,7 @@ use Rattle.vg_isa.specs.declared.isa.Parts.{Parts}
 use Rattle.vg_top.specs.declared.needs.Needs.{Needs}
 use Rattle.vg_top.specs.declared.reason.Reason.{Reason}
 use Rattle.vg_top.specs.declared.reason.Reason.TheVariants as reasons
-use Rattle.vg_top.specs.declared.rule.Rule.{Rule}
+use Rattle.vg_rule.specs.declared.rule.Rule.{Rule}
 use Rattle.vg_top.specs.Description.{IsDescription}
 use Rattle.vg_top.specs.Reason.{lacking, IsLacking, IsReason, AreAlike}
 use Rattle.vg_top.proofs.OneDescription as one

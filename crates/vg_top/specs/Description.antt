@@ -9,17 +9,16 @@ use Rattle.vg_tok.specs.Lexing.{Lexes, IsFault}
 use Rattle.vg_ast.specs.declared.desc.Desc.{Desc}
 use Rattle.vg_ast.specs.Description.{Reads}
 use Rattle.vg_ast.specs.Leaving.{LeavesAt}
-use Rattle.vg_const.specs.declared.fault.DescFault.{DescFault}
-use Rattle.vg_const.specs.declared.fault.DescFault.TheVariants as faults
-use Rattle.vg_const.specs.Rules.{IsAccepted, Breaks}
+use Rattle.vg_rule.specs.declared.breach.Breach.{Breach}
+use Rattle.vg_inline.specs.Rules.{IsAccepted, Breaks}
 use Rattle.vg_inline.specs.InPlace.{known_of}
 use Rattle.vg_isa.specs.declared.isa.Parts.{Parts}
 use Rattle.vg_isa.specs.Accepted.{is_isa}
 use Rattle.vg_form.specs.declared.form.Form.{Form}
 use Rattle.vg_form.specs.Form.{parts_of}
 use Rattle.vg_form.specs.Description.{form_of, found, unlike}
-use Rattle.vg_top.specs.declared.rule.Rule.{Rule}
-use Rattle.vg_top.specs.declared.rule.Rule.TheVariants as rules
+use Rattle.vg_rule.specs.declared.rule.Rule.{Rule}
+use Rattle.vg_rule.specs.declared.rule.Rule.TheVariants as rules
 use Rattle.vg_top.specs.declared.description_fault.DescriptionFault.{DescriptionFault}
 use Rattle.vg_top.specs.declared.description_fault.DescriptionFault.TheVariants as why
 use Rattle.vg_top.specs.declared.reason.Reason.{Reason}
@@ -68,20 +67,19 @@ IsSyntaxFault bytes at =
     ((fault : TokFault) × IsFault bytes fault × (at ≡ place_of fault))
     ⊎ ((tokens : List Token) × Lexes bytes tokens × LeavesAt tokens at)
 
-abbrev pub BreaksFirst : List ℕ → DescFault → Type 0
-BreaksFirst bytes fault = (tree : Desc) × HasTree bytes tree × Breaks tree fault
+-- the tree of the text breaks this rule first, at this place
+abbrev pub BreaksFirst : List ℕ → Breach → Type 0
+BreaksFirst bytes breach = (tree : Desc) × HasTree bytes tree × Breaks tree breach
 
--- This is the first rule that the text breaks, and the first place where it does. The two of the application binary
--- interface and of the stages aren't asked yet of what a text has of them.
+-- This is the first rule that the text breaks, and the first place where it does: the text has no tree, or its tree breaks
+-- the rule.
 abbrev pub IsBroken : List ℕ → Rule → ℕ → Type 0
-IsBroken bytes rules.Syntax at = IsSyntaxFault bytes at
-IsBroken bytes rules.Duplicate at = BreaksFirst bytes (faults.Duplicate at)
-IsBroken bytes rules.Unknown at = BreaksFirst bytes (faults.Unknown at)
-IsBroken bytes rules.Cyclic at = BreaksFirst bytes (faults.Cyclic at)
-IsBroken bytes rules.Overflow at = BreaksFirst bytes (faults.Overflow at)
-IsBroken bytes rules.AbiRole at = ⊥
-IsBroken bytes rules.StageOrder at = ⊥
-IsBroken bytes rules.Limit at = BreaksFirst bytes (faults.Limit at)
+IsBroken bytes rule at = ((rule ≡ rules.Syntax) × IsSyntaxFault bytes at) ⊎ BreaksFirst bytes (record { rule = rule; at = at })
+
+-- a text is the description of a processor, or breaks a rule first at a place, or has a first place that isn't built yet
+abbrev pub HasOutcome : List ℕ → Type 0
+HasOutcome bytes =
+    ((d : Parts) × IsDescription bytes d) ⊎ (((rule : Rule) × (at : ℕ) × IsBroken bytes rule at) ⊎ ((at : ℕ) × IsUnbuilt bytes at))
 
 -- the text is refused for this reason, whatever a command needs of it
 abbrev pub IsRefused : List ℕ → Reason → Type 0

@@ -12,7 +12,6 @@ pub mod Reading
 pub mod Reason
 pub mod Refusal
 pub mod Reports
-pub mod Rule
 pub mod Tasks
 pub mod Theorem
 pub mod Words

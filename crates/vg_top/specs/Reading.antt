@@ -1,14 +1,14 @@
 -- How an answer goes on with the texts of descriptions and images.
-use Rattle.std.specs.Prelude.{◌≡◌, ℕ, ◌⊎◌, List, Option, None, if◌then◌else◌}
+use Rattle.std.specs.Prelude.{◌≡◌, ℕ, ◌⊎◌, List, Option, None}
 use Rattle.vg_isa.specs.declared.isa.Parts.{Parts}
 use Rattle.vg_image.specs.declared.image.Image.{Image}
-use Rattle.vg_image.specs.Reading.{IsSpelled, IsNoImage, has_unbuilt_line}
+use Rattle.vg_image.specs.Reading.{IsSpelled, IsFaultLine}
 use Rattle.vg_top.specs.declared.needs.Needs.{Needs}
 use Rattle.vg_top.specs.declared.reason.Reason.{Reason}
 use Rattle.vg_top.specs.Answers.{Answers, Refuses}
 use Rattle.vg_top.specs.Description.{IsDescription}
 use Rattle.vg_top.specs.Reason.{lacking, IsReason, reason_line}
-use Rattle.vg_top.specs.Refusal.{not_built, image_refused}
+use Rattle.vg_top.specs.Refusal.{image_refused}
 
 -- a description has at most so many bytes, and an image
 abbrev pub description_limit : ℕ
@@ -26,14 +26,10 @@ abbrev pub WithDescription : List ℕ → Needs → (Parts → Answers) → Answ
 WithDescription bytes needs next answer =
     ((d : Parts) × IsDescription bytes d × (lacking needs d ≡ None) × next d answer) ⊎ RefusesDescription bytes needs answer
 
--- why a text that is no image is refused, at some line
-abbrev pub image_refusal : List ℕ → ℕ → List ℕ
-image_refusal bytes line = if has_unbuilt_line bytes then not_built (line, 1) else image_refused line
-
--- the refusal of the text of an image
+-- the refusal of the text of an image, at the line where it leaves the spellings
 abbrev pub RefusesImage : Parts → List ℕ → Answers
-RefusesImage d bytes answer = IsNoImage d bytes × ((line : ℕ) × Refuses (image_refusal bytes line) answer)
+RefusesImage d bytes answer = (line : ℕ) × IsFaultLine d bytes line × Refuses (image_refused line) answer
 
--- an image is read, or the text is refused at some line
+-- an image is read, or the text is refused
 abbrev pub WithImage : Parts → List ℕ → (Image → Answers) → Answers
 WithImage d bytes next answer = ((i : Image) × IsSpelled d bytes i × next i answer) ⊎ RefusesImage d bytes answer

@@ -5,8 +5,8 @@ use Rattle.vg_isa.specs.declared.isa.Parts.{Parts}
 use Rattle.vg_top.specs.declared.needs.Needs.{Needs}
 use Rattle.vg_top.specs.declared.reason.Reason.{Reason}
 use Rattle.vg_top.specs.declared.reason.Reason.TheVariants as reasons
-use Rattle.vg_top.specs.declared.rule.Rule.{Rule}
-use Rattle.vg_top.specs.declared.rule.Rule.TheVariants as rules
+use Rattle.vg_rule.specs.declared.rule.Rule.{Rule}
+use Rattle.vg_rule.specs.declared.rule.Rule.TheVariants as rules
 use Rattle.vg_top.specs.Description.{IsDescription, IsBroken, IsUnbuilt}
 use Rattle.vg_top.specs.Position.{position}
 use Rattle.vg_top.specs.Refusal.{rule_broken, not_built}

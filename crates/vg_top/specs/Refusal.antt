@@ -1,7 +1,7 @@
 -- The one line of a refusal, and the line of usage.
 use Rattle.std.specs.Prelude.{ℕ, ◌∷◌, ◌++◌, List, [], codes, decimal}
-use Rattle.vg_top.specs.declared.rule.Rule.{Rule}
-use Rattle.vg_top.specs.Rule.{number_of, name_of}
+use Rattle.vg_rule.specs.declared.rule.Rule.{Rule}
+use Rattle.vg_rule.specs.Rule.{number_of, name_of}
 
 abbrev pub refusal_line : List ℕ → List ℕ
 refusal_line why = codes "refused: " ++ why ++ 10 ∷ []

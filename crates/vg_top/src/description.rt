@@ -2,42 +2,24 @@ ghost use Rattle.std.specs.Prelude.{◌≡◌, ◌⊎◌, ℕ, List, None, IfOk,
 ghost use Rattle.vg_tok.specs.Lexing.{Lexes};
 ghost use Rattle.vg_ast.specs.Description.{Reads};
 ghost use Rattle.vg_iss.specs.Kept.{is_memory_free};
-ghost use Rattle.vg_const.specs.Rules.{IsFolded};
+ghost use Rattle.vg_inline.specs.Rules.{IsFolded};
 ghost use Rattle.vg_top.specs.Description.{HasTree, IsBuilt, IsUnlike, IsDescription, IsFaultOf};
 ghost use Rattle.vg_top.specs.Reason.{lacking};
-ghost use Rattle.vg_top.specs.Faulting.{token_fault_of, IsBuildFault, IsFaultFor};
+ghost use Rattle.vg_top.specs.Faulting.{IsBuildFault, IsFaultFor};
 
 use crate::description_fault::DescriptionFault;
-use crate::folding::folded;
 use crate::needs::Needs;
 use crate::reason::Reason;
-use crate::rule::Rule;
 use sqlite_items::Items;
 use std::alloc::Global;
 use vg_ast::Desc;
-use vg_const::{Plain, behaviours};
+use vg_const::fold;
 use vg_form::{FormFault, isa_of};
+use vg_inline::Plain;
 use vg_isa::Isa;
 use vg_parse::{ParseFault, parse};
-use vg_tok::{TokFault, Token, tokens};
-
-pub(crate) fn broken(rule: Rule, at: usize) -> DescriptionFault
-    ensures { result ≡ DescriptionFault.Refused (Reason.Broken rule at) }
-{
-    DescriptionFault::Refused(Reason::Broken { rule, at })
-}
-
-fn token_fault(fault: TokFault) -> DescriptionFault
-    ensures { result ≡ token_fault_of fault }
-{
-    match fault {
-        TokFault::NotUtf8 { at } | TokFault::BadChar { at } | TokFault::Wide { at } => broken(
-            Rule::Syntax,
-            at,
-        ),
-        TokFault::OutOfMemory => DescriptionFault::OutOfMemory,
-    }
-}
+use vg_rule::Rule;
+use vg_tok::{Token, tokens};
 
 /// The tokens of a text.
 #[tactic(auto, using(crate::proofs::Described::token_faulty))]
@@ -45,10 +27,7 @@ fn tokens_of(alloc: Global, text: &[u8]) -> Result<Items<Token>, DescriptionFaul
     ensures tokens { IfOk result (λ tokens. Lexes text.now tokens) }
     ensures fault { IfErr result (λ fault. IsFaultOf text.now fault) }
 {
-    match tokens(alloc, text) {
-        Ok(tokens) => Ok(tokens),
-        Err(fault) => Err(token_fault(fault)),
-    }
+    Ok(tokens(alloc, text)?)
 }
 
 /// The tree of the tokens of a text.
@@ -58,7 +37,7 @@ fn tree_of_tokens(alloc: Global, tokens: &[Token]) -> Result<Desc, DescriptionFa
 {
     match parse(alloc, tokens) {
         Ok(tree) => Ok(tree),
-        Err(ParseFault::Syntax { at }) => Err(broken(Rule::Syntax, at)),
+        Err(ParseFault::Syntax { at }) => Err(DescriptionFault::broken(Rule::Syntax, at)),
         Err(ParseFault::OutOfMemory) => Err(DescriptionFault::OutOfMemory),
     }
 }
@@ -73,6 +52,15 @@ fn tree_of(alloc: Global, text: &[u8]) -> Result<Desc, DescriptionFault>
     tree_of_tokens(alloc, tokens.as_slice())
 }
 
+/// The folded description of a tree.
+#[tactic(auto, using(crate::proofs::Described::rule_faulty))]
+fn folded(alloc: Global, tree: Desc) -> Result<Plain, DescriptionFault>
+    ensures plain { IfOk result (λ plain. IsFolded tree plain) }
+    ensures fault { IfErr result (λ fault. (bytes : List ℕ) → HasTree bytes tree → IsFaultOf bytes fault) }
+{
+    Ok(fold(alloc, tree)?)
+}
+
 /// The processor of a folded description, or the place of the first thing that isn't built yet.
 fn isa_of_plain(alloc: Global, plain: &Plain) -> Result<Isa, FormFault>
     requires folded { IsFolded plain.now.description plain.now }
@@ -80,14 +68,7 @@ fn isa_of_plain(alloc: Global, plain: &Plain) -> Result<Isa, FormFault>
     ensures memory_free { IfOk result (λ isa. IsTrue (is_memory_free isa)) }
     ensures fault { IfErr result (λ f. (f ≡ FormFault.OutOfMemory) ⊎ ((at : ℕ) × (f ≡ FormFault.Unlike at) × IsUnlike plain.now.description at)) }
 {
-    let behaviours = behaviours(alloc, plain)?;
-    isa_of(
-        alloc,
-        &plain.description,
-        plain.worths.as_slice(),
-        plain.aliases.as_slice(),
-        behaviours.as_slice(),
-    )
+    isa_of(alloc, plain)
 }
 
 /// The processor of a folded description.
@@ -133,6 +114,6 @@ pub(crate) fn description_for(
     let isa = description_of(alloc, text)?;
     match needs.lacking(&isa) {
         None => Ok(isa),
-        Some(rule) => Err(broken(rule, text.len())),
+        Some(rule) => Err(DescriptionFault::broken(rule, text.len())),
     }
 }

@@ -6,7 +6,7 @@ ghost use Rattle.vg_top.specs.Reading.{RefusesImage};
 ghost use Rattle.vg_top.specs.Tasks.{IsOfFiles, answer_with};
 
 use crate::answer::Answer;
-use crate::refusal::{image_line, not_built};
+use crate::refusal::image_line;
 use std::alloc::{AllocError, Global};
 use vg_image::ImageFault;
 
@@ -20,7 +20,6 @@ pub(crate) fn image_refused(alloc: Global, fault: ImageFault) -> Result<Answer, 
 {
     match fault {
         ImageFault::Line { line } => Ok(Answer::refused(image_line(alloc, line as u64)?)),
-        ImageFault::NotBuilt { line } => Ok(Answer::refused(not_built(alloc, (line as u64, 1))?)),
         ImageFault::OutOfMemory => Err(AllocError),
     }
 }

@@ -14,8 +14,9 @@
 //! ends the call with a read fault, with which nothing is written and no other file is asked for. The whole text of an
 //! answer is written with its status, unless a put failed or no memory was left, and then a prefix of it; only for want of
 //! memory no answer is made. The first put that fails or takes nothing ends the call with a write fault. That words and
-//! files have one answer, but for the line of a refused image, is the law [`one_answer`]; that a text is refused for one
-//! reason [`one_reason`], and [`one_description`].
+//! files have one answer is the law [`one_answer`]. Each text is the description of one processor, or breaks exactly one rule
+//! first at one place, or has one first place that isn't built yet: the law [`one_description`]; and [`one_reason`] says the
+//! same of a text and what a command needs of it.
 //!
 //! **How it is built.** A command is a [`task::Task`]: it asks for a file within a limit, and goes on with the bytes, to
 //! another file or to its answer. It sees no files itself. `driver::drive` is the one loop that loads them, and carries
@@ -23,11 +24,11 @@
 //! `specs/Commands/`, and an entry in the list in `commands.rt` and `Commands.antt`; a report stands likewise in
 //! `src/reports/`. The state of any machine is printed that is a `View` and tells its next byte that isn't 0.
 //!
-//! **Main types:** [`Status`], whose number is the exit status; [`Reason`], why a description is refused, with [`Rule`], the
-//! rules of descriptions; [`Needs`], what a command needs of a description beyond what each has.
+//! **Main types:** [`Status`], whose number is the exit status; [`Reason`], why a description is refused, with the rules of
+//! vg_rule; [`Needs`], what a command needs of a description beyond what each has.
 //!
-//! **Limits.** Of the descriptions that keep the rules those of the form of vg_form are built, and images are without data
-//! and symbols; others are refused as not built. A description has at most 1 MiB, an image 8 MiB.
+//! **Limits.** Of the descriptions that keep the rules those of the form of vg_form are built, and images are run without
+//! data and symbols; others are refused as not built. A description has at most 1 MiB, an image 8 MiB.
 //!
 //! ```text
 //! let status = vadlgen(alloc, words, &mut files, &mut out);   // words: run, two.vadl, two.image, 10
@@ -40,7 +41,6 @@ mod describing;
 mod description;
 mod description_fault;
 mod driver;
-mod folding;
 mod imaging;
 mod laws;
 mod loading;
@@ -53,7 +53,6 @@ mod program;
 mod reason;
 mod refusal;
 mod reports;
-mod rule;
 mod status;
 mod task;
 
@@ -61,5 +60,4 @@ pub use laws::{ascii_names, one_answer, one_description, one_reason};
 pub use needs::Needs;
 pub use program::vadlgen;
 pub use reason::Reason;
-pub use rule::Rule;
 pub use status::Status;

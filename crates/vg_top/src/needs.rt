@@ -2,8 +2,8 @@ ghost use Rattle.std.specs.Prelude.{◌≡◌};
 ghost use Rattle.vg_top.specs.Reason.{lacking};
 ghost use Rattle.vg_top.specs.Needs.{nothing_more};
 
-use crate::rule::Rule;
 use vg_isa::Isa;
+use vg_rule::Rule;
 
 /// What a command needs of a description, beyond what each description has.
 #[derive(Clone, Copy, Debug, PartialEq, Eq)]

@@ -1,4 +1,4 @@
-use crate::rule::Rule;
+use vg_rule::Rule;
 
 /// Why a description is refused. A place is the offset of a byte, from 0.
 ///

@@ -5,8 +5,8 @@ ghost use Rattle.vg_top.specs.Refusal as Lines;
 
 use crate::position::position;
 use crate::reason::Reason;
-use crate::rule::Rule;
 use std::alloc::{AllocError, Global};
+use vg_rule::Rule;
 use vg_text::number::push_decimal;
 use vg_text::piece::push_bytes;
 

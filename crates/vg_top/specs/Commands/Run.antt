@@ -1,6 +1,7 @@
 -- `run D I N`: the report of the run of an image for at most N steps. The description is read before the image is
 -- asked for.
-use Rattle.std.specs.Prelude.{ℕ, List, [], ◌∷◌, codes, Option, Some, None, if◌then◌else◌}
+use Rattle.std.specs.Prelude.{ℕ, ◌+◌, Bool, ◌&&◌, nat_eq, List, [], ◌∷◌, codes, length, Option, Some, None, if◌then◌else◌}
+use Rattle.std.specs.Bool.{MatchBool}
 use Rattle.std.specs.Option.{option_map}
 use Rattle.std.specs.Str.{bytes_eq}
 use Rattle.vg_isa.specs.declared.isa.Parts.{Parts}
@@ -10,10 +11,11 @@ use Rattle.vg_image.specs.Run.{run_of}
 use Rattle.vg_top.specs.declared.commands.run.RunWords.{RunWords}
 use Rattle.vg_top.specs.declared.commands.run.Run as code
 use Rattle.vg_top.specs.declared.commands.run.Run.TheVariants as stage
-use Rattle.vg_top.specs.Answers.{Held, Answers, Only, WithFile, Plan}
+use Rattle.vg_top.specs.Answers.{Held, Answers, Only, Refuses, WithFile, Plan}
 use Rattle.vg_top.specs.Needs.{nothing_more}
 use Rattle.vg_top.specs.Number.{number_up_to, most_steps}
 use Rattle.vg_top.specs.Reading.{description_limit, image_limit, WithDescription, WithImage}
+use Rattle.vg_top.specs.Refusal.{not_built}
 use Rattle.vg_top.specs.Reports.Run.{run_report, run_status}
 
 -- the words of the command
@@ -35,9 +37,21 @@ Reports d i bound =
     let r = run_of d i bound (first_state d i) in
     Only (run_status r.ending) (run_report d i r)
 
+-- An image without data and symbols is run. Another isn't built, at its first line of these: six lines stand before it,
+-- and one for each code word.
+abbrev pub is_bare : Image → Bool
+is_bare i = nat_eq (length i.bytes) 0 && nat_eq (length i.symbols) 0
+
+abbrev pub unbuilt_line : Image → ℕ
+unbuilt_line i = length i.code + 7
+
+-- the answers to an image
+abbrev pub BareReports : Parts → ℕ → Image → Answers
+BareReports d bound i answer = MatchBool (is_bare i) (Reports d i bound answer) (Refuses (not_built (unbuilt_line i, 1)) answer)
+
 -- the answers to the text of the image
 abbrev pub ImageAnswers : Parts → ℕ → List ℕ → Answers
-ImageAnswers d bound bytes = WithImage d bytes (λ i. Reports d i bound)
+ImageAnswers d bound bytes = WithImage d bytes (BareReports d bound)
 
 -- the answers to the text of the description
 abbrev pub RunAnswers : Run → Held → List ℕ → Answers

@@ -14,6 +14,7 @@ use crate::needs::Needs;
 use crate::next::Next;
 use crate::number::{MOST_STEPS, number_up_to};
 use crate::processor::Processor;
+use crate::refusal::not_built;
 use crate::reports::run::{push_run_report, run_status};
 use crate::task::Task;
 use std::alloc::{AllocError, Global};
@@ -80,6 +81,35 @@ fn reported(alloc: Global, isa: &Isa, image: &Image, bound: u64) -> Result<Answe
     })
 }
 
+/// The line of the first data or symbol of an image that has some.
+fn unbuilt_line(isa: &Isa, image: &Image) -> u64
+    requires { IsImage isa.now image.now }
+    ensures { result ≡ command.unbuilt_line image.now }
+{
+    let _ = isa.parts();
+    image.code.len() as u64 + 7
+}
+
+/// Whether an image has neither data nor symbols.
+fn is_bare(image: &Image) -> bool
+    ensures { result ≡ command.is_bare image.now }
+{
+    image.bytes.is_empty() && image.symbols.is_empty()
+}
+
+/// The answer to the image. Images with data or symbols aren't run yet.
+fn bare_answer(alloc: Global, isa: &Isa, image: &Image, bound: u64) -> Result<Answer, AllocError>
+    requires image { IsImage isa.now image.now }
+    requires registers_only { IsTrue (is_memory_free isa.now) }
+    ensures right { IfOk result (λ answer. command.BareReports isa.now bound image.now (answer_with [] answer)) }
+    ensures files { IfOk result (λ answer. IsOfFiles answer.status) }
+{
+    if is_bare(image) {
+        return reported(alloc, isa, image, bound);
+    }
+    Ok(Answer::refused(not_built(alloc, (unbuilt_line(isa, image), 1))?))
+}
+
 /// The answer to the text of the image.
 fn image_answer(alloc: Global, isa: &Isa, bound: u64, text: &[u8]) -> Result<Answer, AllocError>
     requires { IsTrue (is_memory_free isa.now) }
@@ -87,7 +117,7 @@ fn image_answer(alloc: Global, isa: &Isa, bound: u64, text: &[u8]) -> Result<Ans
     ensures files { IfOk result (λ answer. IsOfFiles answer.status) }
 {
     match read(alloc, isa, text) {
-        Ok(image) => reported(alloc, isa, &image, bound),
+        Ok(image) => bare_answer(alloc, isa, &image, bound),
         Err(fault) => image_refused(alloc, fault),
     }
 }

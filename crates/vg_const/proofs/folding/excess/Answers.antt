@@ -9,6 +9,7 @@ use Rattle.vg_inline.specs.declared.kept.Kept.{Kept}
 use Rattle.vg_inline.specs.Inline.{Known}
 use Rattle.vg_inline.specs.Context.{aliases_by, bodies_by, known_by}
 use Rattle.vg_inline.specs.InPlace.{excesses}
+use Rattle.vg_inline.specs.Kept.{counts}
 use Rattle.vg_inline.specs.KeptBehaviour.{item_kept_excess}
 use Rattle.vg_const.proofs.Made.{first_excess}
 use Rattle.vg_const.proofs.folding.excess.Goals as goal
@@ -18,4 +19,4 @@ returns c =
     let of : List Item → Known (Option Kept) = λ all. known_by all (constants_by all c.args.worths.now) (aliases_by all c.args.aliases.now) c.args.bodies.now in
     let made = first_excess c.args.d.now.items c.args.worths.now c.args.aliases.now c.args.bodies.now c.requires.constants c.requires.aliases c.requires.bodies in
     IfOk-weaker c.first_excess.result _ _ (λ found g. g ∙ made)
-    (subst (λ (all : List Item). IfOk c.first_excess.result (λ found. found ≡ first_of (in_each (item_kept_excess all (of all)) all))) c.requires.table c.first_excess.ensures)
+    (subst (λ (all : List Item). IfOk c.first_excess.result (λ found. found ≡ first_of (in_each (item_kept_excess counts all (of all)) all))) c.requires.table c.first_excess.ensures)

@@ -10,8 +10,9 @@ pub returns-clause-so : goal.returns-clause-so
 returns-clause-so c =
     let file = c.args.file in
     let values = values_in c.args.context.now in
-    let doings = c.args.doings.now in
-    let some : nat_eq (length doings) 0 ≡ false = search rules in
+    let x = c.args.context.now in
+    let items = c.args.items.now in
+    let some : nat_eq (length items) 0 ≡ false = search rules in
     subst (λ (sought : Found (List Pair)). FindsSo (λ (pairs : List Pair). pairs) c.pairs_behind.result sought)
-    (ap (λ (front : List Pair). pairs_behind file values 512 front (all_doing doings)) c.new.ensures ∙ sym (pairs_of_some file values c.args.close doings some))
+    (ap (λ (front : List Pair). pairs_behind file values 512 front (all_doing x items)) c.new.ensures ∙ sym (pairs_of_some file values c.args.close x items some))
     c.pairs_behind.ensures.so

@@ -7,5 +7,5 @@ use Rattle.vg_inline.proofs.instructions.first_excess.Given as goal
 
 abbrev pub invariant-loop-item : goal.invariant-loop-item
 invariant-loop-item l =
-    first_of (in_each (item_kept_excess (items_of l.context) (known_in l.context)) (items_of l.context))
-    ≡ first_of (in_each (item_kept_excess (items_of l.context) (known_in l.context)) (drop l.item-index (items_of l.context)))
+    first_of (in_each (item_kept_excess l.context.keep (items_of l.context) (known_in l.context)) (items_of l.context))
+    ≡ first_of (in_each (item_kept_excess l.context.keep (items_of l.context) (known_in l.context)) (drop l.item-index (items_of l.context)))

@@ -1,0 +1,4 @@
+pub mod Lexeme
+pub mod Line
+pub mod Reading
+pub mod Ambiguous
