@@ -78,7 +78,15 @@ fn excess(
 fn known(
     alloc: Global,
     d: &Desc,
-) -> Result<(Items<Worth>, Items<Declared>, Items<Option<Kept>>, Items<usize>), DescFault>
+) -> Result<
+    (
+        Items<Worth>,
+        Items<Declared>,
+        Items<Option<Kept>>,
+        Items<usize>,
+    ),
+    DescFault,
+>
     ensures accepted { IfOk result (λ _. IsAccepted d.now) }
     ensures constants { IfOk result (λ it. constants_by d.now.items it.0 ≡ constants_of d.now.items) }
     ensures aliases { IfOk result (λ it. aliases_by d.now.items it.1 ≡ aliases_of d.now.items (constants_of d.now.items)) }

@@ -203,10 +203,14 @@ fn pair(
     ensures fit { IfOk result (λ pair. IsTrue (fits_fields pair)) }
 {
     let Some((name, behaviour)) = instruction(alloc, first, file, context)? else {
-        return Err(FormFault::Unlike { at: place_of(first) });
+        return Err(FormFault::Unlike {
+            at: place_of(first),
+        });
     };
     let Some((f7, f3, op)) = encoding(name, second, context) else {
-        return Err(FormFault::Unlike { at: place_of(second) });
+        return Err(FormFault::Unlike {
+            at: place_of(second),
+        });
     };
     let pair = Pair {
         name: text_of(alloc, name.text.as_slice())?,
@@ -241,10 +245,14 @@ fn pairs_behind(
         return Ok(front);
     };
     if room == 0 {
-        return Err(FormFault::Unlike { at: place_of(first) });
+        return Err(FormFault::Unlike {
+            at: place_of(first),
+        });
     }
     let Some((second, more)) = behind.split_first() else {
-        return Err(FormFault::Unlike { at: place_of(first) });
+        return Err(FormFault::Unlike {
+            at: place_of(first),
+        });
     };
     let pair = pair(alloc, front.as_slice(), first, second, file, context)?;
     let mut pairs = front;

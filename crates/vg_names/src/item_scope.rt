@@ -1,6 +1,6 @@
+use crate::table::Table;
 use indexmap::IndexSet;
 use vg_ast::Parameter;
-use crate::table::Table;
 
 /// The names that a name in an item may stand for, but for those that `let` binds.
 #[derive(Clone, Copy)]

@@ -6,11 +6,11 @@ ghost use Rattle.vg_names.specs.Numbers.{number_named, with_numbers, graph_of};
 ghost use Rattle.vg_names.specs.Scoped.{HasNames, inner_of, parameter_texts};
 
 use crate::item_scope::ItemScope;
+use crate::table::Table;
 use indexmap::IndexSet;
 use sqlite_items::{Boxed, Items};
 use std::alloc::{AllocError, Global};
 use vg_ast::{Expr, Item, Name, Parameter, TypeExpr};
-use crate::table::Table;
 
 /// Notes the number of the item that a name stands for, where no inner name hides it.
 fn name_uses(

@@ -4,7 +4,6 @@ ghost use Rattle.vg_names.specs.Unknown.{is_right as is_right_by};
 
 use vg_names::Meaning;
 
-
 /// What a place asks of a name.
 #[derive(Clone, Copy)]
 pub enum Asked {
