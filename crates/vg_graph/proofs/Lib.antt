@@ -1,4 +1,5 @@
 pub mod Gets
+pub mod BuildLemmas
 pub mod RetargetLemmas
 pub mod WholeLemmas
 pub mod ReplaceLemmas

@@ -89,16 +89,12 @@ whole_added d old new all node E (Err e) kept store fit ok err = whole_same d ol
 
 -- the graph after a node was asked for
 pub graph_added : (d : Parts) (old new : Store) (all : Roots) (node : Node) (n : ℕ) → IsStoreAdded old new node n → IsAdded (graph_of d old all) (graph_of d new all) node n
-graph_added d old new all node n (inl present) = record {
-  node_is = ap (λ (ns : List Node). slice_get ns n) present.same.nodes ∙ present.found;
-  present = λ m at. λ i. record { isa = d; nodes = present.same.nodes i; users = present.same.users i; roots = all };
-  absent = λ none. absurd (none n present.found);
-}
-graph_added d old new all node n (inr appended) = record {
-  node_is = ap (λ (ns : List Node). slice_get ns n) appended.nodes ∙ ap (λ (m : ℕ). slice_get (old.nodes.items ++ node ∷ []) m) appended.number ∙ gets-end old.nodes.items node;
-  present = λ m at. absurd (appended.absent m at);
-  absent = λ none. λ i. record { isa = d; nodes = appended.nodes i; users = appended.users i; roots = all };
-}
+graph_added d old new all node n (inl present) = inl (record { found = present.found; same = λ i. record { isa = d; nodes = present.same.nodes i; users = present.same.users i; roots = all } })
+graph_added d old new all node n (inr appended) = inr (record {
+  absent = appended.absent;
+  number = appended.number;
+  graph = λ i. record { isa = d; nodes = appended.nodes i; users = appended.users i; roots = all };
+})
 
 pub graph_same : (d : Parts) (old new : Store) (all : Roots) → SameNodes old new → graph_of d new all ≡ graph_of d old all
 graph_same d old new all same = λ i. record { isa = d; nodes = same.nodes i; users = same.users i; roots = all }

@@ -1,5 +1,5 @@
 -- A graph: nodes, the edges that name each of them, and the nodes that stand for the parts of an instruction.
-use Rattle.std.specs.Prelude.{◌≡◌, ℕ, ◌+◌, ◌<◌, ◌↔◌, List, [], ◌∷◌, ◌++◌, length, Option, Some, None, slice_get, slice_index_or, slice_set, IsTrue}
+use Rattle.std.specs.Prelude.{◌≡◌, ℕ, ◌+◌, ◌<◌, ◌↔◌, ◌⊎◌, List, [], ◌∷◌, ◌++◌, length, Option, Some, None, slice_get, slice_index_or, slice_set, IsTrue}
 use Rattle.std.specs.Option.{option_and_then, option_map}
 use Rattle.vg_isa.specs.declared.isa.Parts.{Parts}
 use Rattle.vg_isa.specs.declared.expr.Expr.{Expr, map-Expr, roll-Expr}
@@ -135,8 +135,17 @@ added node g = record g {
   users = with_users (g.users ++ [] ∷ []) (length (edges_of g.nodes)) (args_of node);
 }
 
--- the graph after a node was asked for: with it behind the others, where it had none such
-pub record IsAdded (old new : GraphValue) (node : Node) (n : ℕ) : Type 0 where
-  pub node_is : slice_get new.nodes n ≡ Some node
-  pub present : (m : ℕ) → slice_get old.nodes m ≡ Some node → new ≡ old
-  pub absent : ((m : ℕ) → slice_get old.nodes m ≡ Some node → ⊥) → new ≡ added node old
+-- the node was there, and nothing changes
+pub record IsThere (old new : GraphValue) (node : Node) (n : ℕ) : Type 0 where
+  pub found : slice_get old.nodes n ≡ Some node
+  pub same : new ≡ old
+
+-- the node wasn't there, and is put behind the others
+pub record IsNew (old new : GraphValue) (node : Node) (n : ℕ) : Type 0 where
+  pub absent : (m : ℕ) → slice_get old.nodes m ≡ Some node → ⊥
+  pub number : n ≡ length old.nodes
+  pub graph : new ≡ added node old
+
+-- the graph after a node was asked for
+abbrev pub IsAdded : GraphValue → GraphValue → Node → ℕ → Type 0
+IsAdded old new node n = IsThere old new node n ⊎ IsNew old new node n

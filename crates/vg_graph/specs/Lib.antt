@@ -8,4 +8,5 @@ pub mod Same
 pub mod Table
 pub mod Store
 pub mod Whole
+pub mod Building
 pub mod Walk

@@ -129,6 +129,20 @@ impl<'a> Graph<'a> {
         self.store.add(&node)
     }
 
+    /// As `add`; but a node that would be one too many is refused as if there were no memory for it.
+    pub fn add_or_refuse(&mut self, node: Node) -> Result<u32, AllocError>
+        requires { IsFit self.old node }
+        ensures ok { IfOk result (λ n. IsAdded self.old self.new node n) }
+        ensures err { OnErr result (self.new ≡ self.old) }
+    {
+        let nodes = self.store.nodes.len() + 1;
+        let edges = self.store.edges.len() + node.args.count() as usize;
+        if nodes > u32::MAX as usize || edges > u32::MAX as usize {
+            return Err(AllocError);
+        }
+        self.add(node)
+    }
+
     /// Every operand and every root that is the node `old` becomes the node `new`; all else stays. Their users are
     /// moved at once.
     ///

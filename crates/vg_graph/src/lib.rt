@@ -34,6 +34,7 @@
 //! ```
 #![tactic(auto)]
 
+mod building;
 mod graph;
 mod hashing;
 mod node;
@@ -44,6 +45,7 @@ mod roots;
 mod same;
 mod store;
 mod table;
+mod task;
 
 pub use graph::Graph;
 pub use node::Node;

@@ -4,3 +4,4 @@ pub mod Escapes
 pub mod Fields
 pub mod TypesComplete
 pub mod TypesSound
+pub mod TypesPlace

@@ -55,7 +55,7 @@ simple_local [] h = absurd (cc)
 simple_local (c ∷ cs) h = simple_local_by c cs (c == 37) refl h
 
 -- a type of one lexeme is read as itself
-simple_part : (d : ℕ) (w : Wanted) (first : Placed) (ts : List Placed) (t : Ty) → 0 < d → simple_type first.text ≡ Some t
+pub simple_part : (d : ℕ) (w : Wanted) (first : Placed) (ts : List Placed) (t : Ty) → 0 < d → simple_type first.text ≡ Some t
     → part_within d w (first ∷ ts) ≡ reads (record { ty = t; leaves = spot first.at ∷ [] }, ts)
 unfolding part_within
 simple_part zero w first ts t p h = absurd (omega arith)
@@ -129,7 +129,7 @@ part_of t = record { ty = tree.type_of t; leaves = tree.all_leaves t }
 abbrev struct_of : List Ty → List Spot → List Placed → Answer (Part × List Placed)
 struct_of types spots rest = reads (record { ty = ty.Struct types; leaves = spots }, rest)
 
-abbrev closed : Mark → List Slot → List Slot
+abbrev pub closed : Mark → List Slot → List Slot
 closed closing behind = last_of_type plain (marked (codes "}") closing) ∷ behind
 
 max_left : (a b d : ℕ) → max a b < d → a < d
@@ -139,18 +139,18 @@ max_right : (a b d : ℕ) → max a b < d → b < d
 max_right a b d h = grind (arith, nat_tests)
 
 -- a type is read where the reader may go d brackets deep
-abbrev IsRead : ℕ → TypeTree → Type 0
+abbrev pub IsRead : ℕ → TypeTree → Type 0
 IsRead d t = (w : Wanted) (r : Role) (behind : List Slot) → part_within d w (lexemes_of (spelled_type r t behind)) ≡ reads (part_of t, lexemes_of behind)
 
-bracket_array : (read : Reader) (w : Wanted) (opening : Mark) (ts : List Placed) → bracketed_at read w (marked (codes "[") opening) ts ≡ array_at read ts
+pub bracket_array : (read : Reader) (w : Wanted) (opening : Mark) (ts : List Placed) → bracketed_at read w (marked (codes "[") opening) ts ≡ array_at read ts
 unfolding bracketed_at
 bracket_array read w opening ts = refl
 
-bracket_structure : (read : Reader) (w : Wanted) (opening : Mark) (ts : List Placed) → bracketed_at read w (marked (codes "{") opening) ts ≡ fields_at (length ts) read [] [] ts
+pub bracket_structure : (read : Reader) (w : Wanted) (opening : Mark) (ts : List Placed) → bracketed_at read w (marked (codes "{") opening) ts ≡ fields_at (length ts) read [] [] ts
 unfolding bracketed_at
 bracket_structure read w opening ts = refl
 
-array_complete : (opening : Mark) (m : Placed) (by : Mark) (element : TypeTree) (closing : Mark) → is_length m.text ≡ true → (d : ℕ) → IsRead d element
+pub array_complete : (opening : Mark) (m : Placed) (by : Mark) (element : TypeTree) (closing : Mark) → is_length m.text ≡ true → (d : ℕ) → IsRead d element
     → (w : Wanted) (behind : List Slot)
     → bracketed_at (part_within d) w (marked (codes "[") opening) (m ∷ marked (codes "x") by ∷ lexemes_of (spelled_type any_type element (last_of_type plain (marked (codes "]") closing) ∷ behind)))
     ≡ reads (part_of (array opening m by element closing), lexemes_of behind)
@@ -198,7 +198,7 @@ structure_complete opening first more closing d i j w behind =
     ∙ j (length ts) [] [] (part_of first) ts closing behind (omega (arith, m, l)) (i (wanted roles.AnyType) any_type (spelled_more_types more (closed closing behind)))
 
 mutual
-  part_complete : (t : TypeTree) → is_type t ≡ true → (d : ℕ) → nesting t < d → IsRead d t
+  pub part_complete : (t : TypeTree) → is_type t ≡ true → (d : ℕ) → nesting t < d → IsRead d t
   part_complete (integer width at) h d n w r behind = simple_part d w _ _ (ty.Int width) (omega arith) (simple_integer width h)
   part_complete (pointer at) h d n w r behind = simple_part d w _ _ ty.Ptr (omega arith) simple_pointer
   part_complete (named name) h d n w r behind = simple_part d w _ _ _ (omega arith) (simple_local name.text h)

@@ -22,3 +22,4 @@ pub mod ModuleText
 pub mod Named
 pub mod ReadingType
 pub mod ExactType
+pub mod PlaceType

@@ -10,10 +10,11 @@
 //! begin with and the lexemes behind it, or the place where they leave the grammar and what was wanted there.
 //!
 //! The theorem: `type_at` is equal to a function on lists (`specs/ReadingType.antt`), of which [`exact_types`] says: what is
-//! read is a type of the grammar that the lexemes in front spell, and each type of the grammar is read, where it ends.
+//! read is a type of the grammar that the lexemes in front spell; each type of the grammar is read, where it ends; and
+//! where a type is refused, some type begins with the lexemes in front, and none with the next one too.
 //!
 //! **Limits.** At most 1,000 brackets of a type stand in one another; for more there is no memory. The other parts of a
-//! module are defined and not yet read. That a refused type is refused at the right place is no law yet.
+//! module are defined and not yet read.
 //!
 //! ```text
 //! let found = vg_irlex::lexemes(alloc, b"[4 x { i32, ptr }] undef")?;
