@@ -3,10 +3,9 @@ use Rattle.std.proofs.Common.{◌≡◌, ℕ, suc, true, false, true≢false, �
 use Rattle.std.specs.List.{list_all}
 use Rattle.std.proofs.lemmas.List.Folds.{list_all-append}
 use Rattle.vg_form.specs.declared.form.Pair.{Pair}
+use Rattle.vg_form.specs.declared.remaining.Remaining.{Remaining}
 use Rattle.vg_form.specs.Form.{fits_fields}
 use Rattle.vg_form.specs.Description.{Found, found, Doing, Values, ◌>>=◌, pair_of, pairs_behind, pairs_of}
-use Rattle.std.specs.Borrow.{Bor}
-use Rattle.vg_ast.specs.declared.item.Item.{Item}
 use Rattle.vg_inline.specs.declared.context.Context.{Context}
 use Rattle.vg_form.specs.Given.{all_doing}
 
@@ -24,6 +23,6 @@ fit_more front pair front_fits pair_fits =
     ∙ ap (λ b. b && true) pair_fits
 
 -- where there is a first item there is a pair
-pub pairs_of_some : (file : ℕ) (values : Values) (close : ℕ) (x : Context) (items : List (Bor Item)) → nat_eq (length items) 0 ≡ false → pairs_of file values close (all_doing x items) ≡ pairs_behind file values 512 [] (all_doing x items)
+pub pairs_of_some : (file : ℕ) (values : Values) (close : ℕ) (x : Context) (items : List Remaining) → nat_eq (length items) 0 ≡ false → pairs_of file values close (all_doing x items) ≡ pairs_behind file values 512 [] (all_doing x items)
 pairs_of_some file values close x [] e = absurd (true≢false e)
 pairs_of_some file values close x (item ∷ items) e = refl

@@ -10,6 +10,7 @@ ghost use Rattle.vg_form.specs.Finding.{FindsSo};
 use crate::declaration::Declaration;
 use crate::fault::FormFault;
 use crate::naming::is_named;
+use crate::remaining::Remaining;
 use sqlite_items::Boxed;
 use vg_ast::{BitsKind, Expr, Field, Item, Range, TypeExpr};
 use vg_inline::{Context, Declared, declared_type, worth_of};
@@ -187,27 +188,29 @@ fn is_declared(declaration: Declaration, item: &Item, context: &Context) -> bool
 fn behind<'a>(
     declaration: Declaration,
     close: usize,
-    items: &'a [&'a Item],
+    items: &'a [Remaining<'a>],
     context: &Context,
-) -> Result<&'a [&'a Item], FormFault>
+) -> Result<&'a [Remaining<'a>], FormFault>
     ensures { FindsSo (λ rest. all_doing context.now rest.now) result (behind (is_declared (values_in context.now) declaration) close (all_doing context.now items.now)) }
 {
-    let Some((item, more)) = items.split_first() else {
+    let Some((first, more)) = items.split_first() else {
         return Err(FormFault::Unlike { at: close });
     };
-    if is_declared(declaration, item, context) {
+    if is_declared(declaration, first.item, context) {
         Ok(more)
     } else {
-        Err(FormFault::Unlike { at: place_of(item) })
+        Err(FormFault::Unlike {
+            at: place_of(first.item),
+        })
     }
 }
 
 /// What follows the declarations.
 pub(crate) fn behind_declarations<'a>(
     close: usize,
-    items: &'a [&'a Item],
+    items: &'a [Remaining<'a>],
     context: &Context,
-) -> Result<&'a [&'a Item], FormFault>
+) -> Result<&'a [Remaining<'a>], FormFault>
     ensures { FindsSo (λ rest. all_doing context.now rest.now) result (behind_declarations (values_in context.now) close (all_doing context.now items.now)) }
 {
     let rest = behind(Declaration::Counter, close, items, context)?;

@@ -5,6 +5,7 @@ ghost use Rattle.std.specs.List.{filter};
 ghost use Rattle.vg_form.specs.Description.{declares};
 ghost use Rattle.vg_form.specs.Given.{items_in};
 
+use crate::remaining::Remaining;
 use std::alloc::{AllocError, Global};
 use vg_ast::Item;
 
@@ -19,14 +20,14 @@ fn declares(item: &Item) -> bool
 }
 
 /// The items that are left.
-pub(crate) fn left<'a>(alloc: Global, items: &'a [Item]) -> Result<Vec<&'a Item>, AllocError>
+pub(crate) fn left<'a>(alloc: Global, items: &'a [Item]) -> Result<Vec<Remaining<'a>>, AllocError>
     ensures { IfOk result (λ left. items_in left.items ≡ filter declares items.now) }
 {
     let mut left = Vec::new(alloc);
     let mut rest = items;
     while let Some((item, more)) = rest.split_first() {
         if declares(item) {
-            left.push(item)?;
+            left.push(Remaining { item })?;
         }
         rest = more;
     }

@@ -37,6 +37,7 @@ mod leaving;
 mod making;
 mod naming;
 mod pairing;
+mod remaining;
 mod shape;
 mod shaping;
 

@@ -9,7 +9,7 @@ ghost use Rattle.vg_form.specs.declared.form.Form.{Form as TheForm};
 ghost use Rattle.vg_form.specs.Form.{fits_fields, parts_of};
 ghost use Rattle.vg_form.specs.Description.{declares, file_of, form_by, form_of, found, name_of, unlike};
 ghost use Rattle.vg_form.specs.Finding.{FindsSo};
-ghost use Rattle.vg_form.specs.Given.{doing, values_in};
+ghost use Rattle.vg_form.specs.Given.{doing, form_given, values_in};
 
 use crate::build::isa_of_form;
 use crate::declaring::behind_declarations;
@@ -20,9 +20,10 @@ use crate::naming::{is_ascii, text_of};
 use crate::pairing::pairs;
 use std::alloc::Global;
 use vg_ast::{Desc, Name};
-use vg_inline::{Context, Plain, make_bodies};
+use vg_inline::{Context, Declared, Keep, Kept, Plain, make_bodies};
 use vg_isa::{Isa, Text};
 use vg_names::Table;
+use vg_whole::Worth;
 
 fn name(alloc: Global, name: &Name) -> Result<Text, FormFault>
     ensures { FindsSo (λ text. text) result (name_of name.now) }
@@ -77,6 +78,32 @@ fn isa_in(alloc: Global, description: &Desc, context: &Context) -> Result<Isa, F
     Ok(isa)
 }
 
+/// The processor of a description, by what is known of its items.
+fn isa_by(
+    alloc: Global,
+    description: &Desc,
+    table: &Table,
+    worths: &[Worth],
+    aliases: &[Declared],
+    bodies: &[Option<Kept>],
+    keep: Keep,
+) -> Result<Isa, FormFault>
+    requires items { table.now.items.now ≡ description.now.items }
+    ensures isa { IfOk result (λ isa. (form : TheForm) × (form_given description.now table.now.items.now worths.now aliases.now keep bodies.now ≡ found form) × (isa ≡ parts_of form)) }
+    ensures memory_free { IfOk result (λ isa. IsTrue (is_memory_free isa)) }
+    ensures fault { IfErr result (λ f. (f ≡ FormFault.OutOfMemory) ⊎ ((at : ℕ) × (f ≡ FormFault.Unlike at) × (form_given description.now table.now.items.now worths.now aliases.now keep bodies.now ≡ unlike at))) }
+{
+    let context = Context {
+        table,
+        worths,
+        aliases,
+        bodies,
+        keep,
+        parameters: &[],
+    };
+    isa_in(alloc, description, &context)
+}
+
 /// The processor of a folded description, or the place of the first thing in the text that isn't built yet. What an
 /// instruction does is made and dropped before the next.
 pub fn isa_of(alloc: Global, plain: &Plain) -> Result<Isa, FormFault>
@@ -87,13 +114,13 @@ pub fn isa_of(alloc: Global, plain: &Plain) -> Result<Isa, FormFault>
 {
     let table = Table::new(alloc, plain.description.items.as_slice())?;
     let bodies = make_bodies(alloc, &table, plain)?;
-    let context = Context {
-        table: &table,
-        worths: plain.worths.as_slice(),
-        aliases: plain.aliases.as_slice(),
-        bodies: bodies.trees.as_slice(),
-        keep: bodies.keep,
-        parameters: &[],
-    };
-    isa_in(alloc, &plain.description, &context)
+    isa_by(
+        alloc,
+        &plain.description,
+        &table,
+        plain.worths.as_slice(),
+        plain.aliases.as_slice(),
+        bodies.trees.as_slice(),
+        bodies.keep,
+    )
 }

@@ -11,6 +11,7 @@ use crate::declaring::place_of;
 use crate::fault::FormFault;
 use crate::form::{Behaviour, Pair};
 use crate::naming::{is_ascii, is_named, text_of};
+use crate::remaining::Remaining;
 use crate::shape::{Operand, Shape};
 use crate::shaping::shape;
 use sqlite_items::Items;
@@ -231,7 +232,7 @@ fn pairs_behind(
     alloc: Global,
     room: usize,
     front: Items<Pair>,
-    items: &[&Item],
+    items: &[Remaining<'_>],
     file: usize,
     context: &Context,
 ) -> Result<Items<Pair>, FormFault>
@@ -246,15 +247,22 @@ fn pairs_behind(
     };
     if room == 0 {
         return Err(FormFault::Unlike {
-            at: place_of(first),
+            at: place_of(first.item),
         });
     }
     let Some((second, more)) = behind.split_first() else {
         return Err(FormFault::Unlike {
-            at: place_of(first),
+            at: place_of(first.item),
         });
     };
-    let pair = pair(alloc, front.as_slice(), first, second, file, context)?;
+    let pair = pair(
+        alloc,
+        front.as_slice(),
+        first.item,
+        second.item,
+        file,
+        context,
+    )?;
     let mut pairs = front;
     pairs.push(pair)?;
     pairs_behind(alloc, room - 1, pairs, more, file, context)
@@ -264,7 +272,7 @@ fn pairs_behind(
 pub(crate) fn pairs(
     alloc: Global,
     close: usize,
-    items: &[&Item],
+    items: &[Remaining<'_>],
     file: usize,
     context: &Context,
 ) -> Result<Items<Pair>, FormFault>
