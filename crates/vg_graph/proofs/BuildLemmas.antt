@@ -314,16 +314,16 @@ added_extends old new node n (inr is) = record {
   isa = ap (λ (g : GraphValue). g.isa) is.graph;
   nodes = ap (λ (g : GraphValue). g.nodes) is.graph;
   shared = λ shared. subst (λ (g : GraphValue). IsShared g) (sym is.graph) (λ i j x at_i at_j.
-    elim (gets-pushed old.nodes node i x at_i) [
-      | inl before_i ↦ elim (gets-pushed old.nodes node j x at_j) [
-        | inl before_j ↦ shared i j x before_i before_j
-        | inr last_j ↦ absurd (is.absent i (before_i ∙ ap Some (sym last_j.1)))
-      ]
-      | inr last_i ↦ elim (gets-pushed old.nodes node j x at_j) [
-        | inl before_j ↦ absurd (is.absent j (before_j ∙ ap Some (sym last_i.1)))
-        | inr last_j ↦ last_i.0 ∙ sym last_j.0
-      ]
-    ]);
+      elim (gets-pushed old.nodes node i x at_i) [
+        | inl before_i ↦ elim (gets-pushed old.nodes node j x at_j) [
+          | inl before_j ↦ shared i j x before_i before_j
+          | inr last_j ↦ absurd (is.absent i (before_i ∙ ap Some (sym last_j.1)))
+        ]
+        | inr last_i ↦ elim (gets-pushed old.nodes node j x at_j) [
+          | inl before_j ↦ absurd (is.absent j (before_j ∙ ap Some (sym last_i.1)))
+          | inr last_j ↦ last_i.0 ∙ sym last_j.0
+        ]
+      ]);
 }
 
 -- the number of a node that was asked for

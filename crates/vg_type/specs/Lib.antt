@@ -1,0 +1,12 @@
+pub mod ValueType
+pub mod Operator
+pub mod Judged
+pub mod Expression
+pub mod Scope
+pub mod Fields
+pub mod Setting
+pub mod Found
+pub mod Calls
+pub mod Faults
+pub mod Statement
+pub mod Item

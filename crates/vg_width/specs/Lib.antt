@@ -1,0 +1,11 @@
+pub mod FieldCover
+pub mod FieldValue
+pub mod AbiRole
+pub mod Limit
+pub mod Resource
+pub mod Made
+pub mod Written
+pub mod Access
+pub mod StageOrder
+pub mod IsaOf
+pub mod Rules

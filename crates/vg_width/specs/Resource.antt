@@ -1,0 +1,48 @@
+-- The resources of a description, by the numbers of their items.
+use Rattle.std.specs.Prelude.{ℕ, ◌+◌, zero, suc, Bool, true, false, List, [], ◌∷◌, Option, Some, slice_get, if◌then◌else◌}
+use Rattle.vg_ast.specs.declared.item.Item.{Item}
+use Rattle.vg_ast.specs.declared.item.Item.TheVariants as items
+use Rattle.vg_isa.specs.declared.ids.ResourceId.{ResourceId}
+use Rattle.vg_isa.specs.declared.ids.ResourceId.TheVariants.{Memory, Reg}
+
+abbrev pub is_register : Item → Bool
+is_register (items.Register at name given) = true
+is_register (items.RegisterFile at name index given constant) = true
+is_register _ = false
+
+abbrev pub is_format : Item → Bool
+is_format (items.Format at name given fields) = true
+is_format _ = false
+
+abbrev pub is_memory : Option Item → Bool
+is_memory (Some (items.Memory at name address cell)) = true
+is_memory _ = false
+
+abbrev pub is_counter : Option Item → Bool
+is_counter (Some (items.ProgramCounter at name given)) = true
+is_counter _ = false
+
+-- how many such items there are among the first ones
+abbrev pub count_before : (Item → Bool) → ℕ → List Item → ℕ
+count_before is zero all = 0
+count_before is (suc k) [] = 0
+count_before is (suc k) (item ∷ more) = if is item then 1 + count_before is k more else count_before is k more
+
+-- the number of the first such item, and 0 where there is none
+abbrev pub first_from : (Option Item → Bool) → ℕ → List Item → ℕ
+first_from is k [] = 0
+first_from is k (item ∷ more) = if is (Some item) then k else first_from is (k + 1) more
+
+abbrev pub memory_number : List Item → ℕ
+memory_number all = first_from is_memory 0 all
+
+-- a register among registers, and a format among formats
+abbrev pub register_id : List Item → ℕ → ℕ
+register_id all k = count_before is_register k all
+
+abbrev pub format_id : List Item → ℕ → ℕ
+format_id all k = count_before is_format k all
+
+-- the memory, or the register that an item declares
+abbrev pub resource_id : List Item → ℕ → ResourceId
+resource_id all k = if is_memory (slice_get all k) then Memory else Reg (record { 0 = register_id all k })
