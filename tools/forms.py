@@ -7,6 +7,7 @@ import random
 import sys
 
 from cases import case, keep
+from widths import told
 
 FIELDS = [("f7", 31, 25), ("rs2", 24, 20), ("rs1", 19, 15), ("f3", 14, 12), ("rd", 11, 7), ("op", 6, 0)]
 # Few names, among them those of fields, so that inner names hide fields and one another.
@@ -200,6 +201,9 @@ def description(draw):
             line = len(lines) + 2
         lines += items[k : k + 1]
     text = "instruction set architecture T = {\n%s}\n" % "".join("  %s\n" % it for it in lines)
+    rule = told(text)
+    if rule != "accepted":
+        return text, "refused: description " + rule
     return text, "ok T %d" % pairs if line is None else "refused: not built at %d:3" % line
 
 

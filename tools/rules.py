@@ -1,6 +1,6 @@
 #!/usr/bin/env python3
-"""Makes crates/vg_cases/data/rules.cases: descriptions, and the first rule of names, constants and sizes that each breaks, by
-the reader in names.py. Of one that breaks none this reader doesn't know whether it is built: such an answer is kept as the
+"""Makes crates/vg_cases/data/rules.cases: descriptions, and the first rule that each breaks, by the readers in names.py and
+widths.py. Of one that breaks none this reader doesn't know whether it is built: such an answer is kept as the
 table has it, and must be `ok` with the name and the number of instructions, or `not built`. With --check it changes nothing,
 and fails where the table isn't as it would make it."""
 import os
@@ -9,10 +9,9 @@ import sys
 
 sys.setrecursionlimit(1000000)
 from cases import answers, case, keep
-from names import told
+from widths import told
 
 HERE = os.path.dirname(os.path.abspath(__file__))
-NUMBERS = {"Syntax": 1, "Duplicate": 2, "Unknown": 3, "Cyclic": 4, "Overflow": 5, "Limit": 18}
 OLD = answers("rules.cases")
 rows = []
 
@@ -515,8 +514,7 @@ def answer(title, text):
     """The line that `check` writes."""
     rule = told(text)
     if rule != "accepted":
-        name, place = rule.split(" ", 1)
-        return "refused: description %d %s %s" % (NUMBERS[name], name, place)
+        return "refused: description " + rule
     old = OLD.get(title, "refused: not built")
     if not re.fullmatch(r"ok \w+ \d+|refused: not built at \d+:\d+", old):
         sys.exit("rules.py: no answer is known to " + title)

@@ -25,7 +25,7 @@ const TABLES: [&str; 7] = [
 ];
 
 /// The tables that scripts of tools/ make.
-const MADE_TABLES: [&str; 3] = ["forms.cases", "rules.cases", "lines.cases"];
+const MADE_TABLES: [&str; 4] = ["forms.cases", "rules.cases", "lines.cases", "widths.cases"];
 
 fn show_table(rt: &impl Print, alloc: Global, name: &str, text: &str) -> io::Result<()> {
     let counts = reading::run_table(rt, alloc, text)?;

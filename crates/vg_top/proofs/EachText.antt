@@ -13,7 +13,7 @@ use Rattle.vg_rule.specs.declared.breach.Breach.{Breach}
 use Rattle.vg_rule.specs.declared.rule.Rule.{Rule}
 use Rattle.vg_rule.specs.declared.rule.Rule.TheVariants as rules
 use Rattle.vg_inline.specs.InPlace.{known_of}
-use Rattle.vg_inline.specs.Rules.{breach_of, IsAccepted}
+use Rattle.vg_width.specs.Rules.{first_broken, KeepsRules}
 use Rattle.vg_isa.specs.declared.isa.Parts.{Parts}
 use Rattle.vg_form.specs.declared.form.Form.{Form}
 use Rattle.vg_form.specs.Form.{parts_of}
@@ -29,7 +29,7 @@ module _ (bytes : List ℕ) where
   is_broken : (rule : Rule) (at : ℕ) → IsBroken bytes rule at → HasOutcome bytes
   is_broken rule at h = inr (inl (rule, at, h))
 
-  by_form : (tree : Desc) → HasTree bytes tree → IsAccepted tree → (sought : Found Form) → form_of tree (known_of tree.items) ≡ sought → HasOutcome bytes
+  by_form : (tree : Desc) → HasTree bytes tree → KeepsRules tree → (sought : Found Form) → form_of tree (known_of tree.items) ≡ sought → HasOutcome bytes
   by_form tree has accepted (found form) e = inl (
     parts_of form,
     record {
@@ -42,12 +42,12 @@ module _ (bytes : List ℕ) where
   )
   by_form tree has accepted (unlike at) e = inr (inr (at, record { tree = tree; has_tree = has; accepted = accepted; unbuilt = record { unlike_at = e } }))
 
-  by_breach : (tree : Desc) → HasTree bytes tree → (breach : Option Breach) → breach_of tree ≡ breach → HasOutcome bytes
+  by_breach : (tree : Desc) → HasTree bytes tree → (breach : Option Breach) → first_broken tree ≡ breach → HasOutcome bytes
   by_breach tree has None e = by_form tree has e (form_of tree (known_of tree.items)) refl
   by_breach tree has (Some breach) e = is_broken breach.rule breach.at (inr (tree, has, e))
 
   by_tree : (tokens : List Token) → Lexes bytes tokens → ((tree : Desc) × Reads tokens tree) ⊎ ((at : ℕ) × LeavesAt tokens at) → HasOutcome bytes
-  by_tree tokens lexes (inl (tree, reads)) = by_breach tree (record { tokens = tokens; lexes = lexes; reads = reads }) (breach_of tree) refl
+  by_tree tokens lexes (inl (tree, reads)) = by_breach tree (record { tokens = tokens; lexes = lexes; reads = reads }) (first_broken tree) refl
   by_tree tokens lexes (inr (at, leaves)) = is_broken rules.Syntax at (inl (refl, inr (tokens, lexes, leaves)))
 
   by_tokens : ((tokens : List Token) × Lexes bytes tokens) ⊎ ((fault : TokFault) × IsFault bytes fault) → HasOutcome bytes

@@ -8,7 +8,7 @@ use Rattle.vg_ast.specs.Leaving.{LeavesAt}
 use Rattle.vg_parse.proofs.Readers.{readers}
 use Rattle.vg_parse.proofs.Place.{tree_once, place_once, not_both}
 use Rattle.vg_rule.specs.declared.breach.Breach.{Breach}
-use Rattle.vg_inline.specs.Rules.{IsAccepted, breach_of}
+use Rattle.vg_width.specs.Rules.{KeepsRules, first_broken}
 use Rattle.vg_inline.specs.InPlace.{known_of}
 use Rattle.vg_isa.specs.declared.isa.Parts.{Parts}
 use Rattle.vg_form.specs.declared.form.Form.{Form}
@@ -57,7 +57,7 @@ module _ (bytes : List ℕ) where
       place_once readers tokens a b leaves (subst (λ (ts : List Token). LeavesAt ts b) (tokens_once bytes others tokens also lexes) behind)
 
   one_breach : (a b : Breach) → BreaksFirst bytes a → BreaksFirst bytes b → a ≡ b
-  one_breach a b (s, x, e) (t, y, d) = some_same (sym e ∙ ap breach_of (one_tree s t x y) ∙ d)
+  one_breach a b (s, x, e) (t, y, d) = some_same (sym e ∙ ap first_broken (one_tree s t x y) ∙ d)
 
   same_breach : (r s : Rule) (a b : ℕ) → breach r a ≡ breach s b → (r ≡ s) × (a ≡ b)
   same_breach r s a b e = (ap (λ (x : Breach). x.rule) e, ap (λ (x : Breach). x.at) e)
@@ -68,9 +68,9 @@ module _ (bytes : List ℕ) where
   one_broken r s a b (inr (t, has, x)) (inl (d, y)) = absurd (tree_or_syntax t b has y)
   one_broken r s a b (inr x) (inr y) = same_breach r s a b (one_breach (breach r a) (breach s b) x y)
 
-  accepted_or_broken : (t : Desc) (r : Rule) (a : ℕ) → HasTree bytes t → IsAccepted t → IsBroken bytes r a → ⊥
+  accepted_or_broken : (t : Desc) (r : Rule) (a : ℕ) → HasTree bytes t → KeepsRules t → IsBroken bytes r a → ⊥
   accepted_or_broken t r a has accepted (inl (e, x)) = tree_or_syntax t a has x
-  accepted_or_broken t r a has accepted (inr (s, also, x)) = never (sym accepted ∙ ap breach_of (one_tree t s has also) ∙ x)
+  accepted_or_broken t r a has accepted (inr (s, also, x)) = never (sym accepted ∙ ap first_broken (one_tree t s has also) ∙ x)
 
   pub described_or_broken : (d : Parts) (r : Rule) (a : ℕ) → IsDescription bytes d → IsBroken bytes r a → ⊥
   described_or_broken d r a h x = accepted_or_broken h.tree r a h.has_tree h.accepted x

@@ -1,7 +1,8 @@
 -- Which processor the text of a description stands for; or which rule it breaks first, and where; or what in it isn't
 -- built yet. The rules are asked in this order: the text has a tree; nothing is defined twice; all names are known;
--- nothing uses itself; no operator leaves the whole numbers; no behaviour has too many nodes.
-use Rattle.std.specs.Prelude.{◌≡◌, ◌⊎◌, ⊤, ℕ, List, IsTrue}
+-- nothing uses itself; no operator leaves the whole numbers; no behaviour has too many nodes; and behind these those of types,
+-- ranges, formats, encodings, behaviours, the binary interface, stages and limits.
+use Rattle.std.specs.Prelude.{◌≡◌, ◌⊎◌, ⊤, ℕ, List, Some, IsTrue}
 use Rattle.vg_tok.specs.declared.token.Token.{Token}
 use Rattle.vg_tok.specs.declared.fault.TokFault.{TokFault}
 use Rattle.vg_tok.specs.declared.fault.TokFault.TheVariants as token_faults
@@ -10,7 +11,7 @@ use Rattle.vg_ast.specs.declared.desc.Desc.{Desc}
 use Rattle.vg_ast.specs.Description.{Reads}
 use Rattle.vg_ast.specs.Leaving.{LeavesAt}
 use Rattle.vg_rule.specs.declared.breach.Breach.{Breach}
-use Rattle.vg_inline.specs.Rules.{IsAccepted, Breaks}
+use Rattle.vg_width.specs.Rules.{KeepsRules, first_broken}
 use Rattle.vg_inline.specs.InPlace.{known_of}
 use Rattle.vg_isa.specs.declared.isa.Parts.{Parts}
 use Rattle.vg_isa.specs.Accepted.{is_isa}
@@ -44,7 +45,7 @@ pub record IsUnlike (tree : Desc) (at : ℕ) : Type 0 where
 pub record IsDescription (bytes : List ℕ) (d : Parts) : Type 0 where
   pub tree : Desc
   pub has_tree : HasTree bytes tree
-  pub accepted : IsAccepted tree
+  pub accepted : KeepsRules tree
   pub built : IsBuilt tree d
   pub accepts : IsTrue (is_isa d)
 
@@ -52,7 +53,7 @@ pub record IsDescription (bytes : List ℕ) (d : Parts) : Type 0 where
 pub record IsUnbuilt (bytes : List ℕ) (at : ℕ) : Type 0 where
   pub tree : Desc
   pub has_tree : HasTree bytes tree
-  pub accepted : IsAccepted tree
+  pub accepted : KeepsRules tree
   pub unbuilt : IsUnlike tree at
 
 abbrev pub place_of : TokFault → ℕ
@@ -69,7 +70,7 @@ IsSyntaxFault bytes at =
 
 -- the tree of the text breaks this rule first, at this place
 abbrev pub BreaksFirst : List ℕ → Breach → Type 0
-BreaksFirst bytes breach = (tree : Desc) × HasTree bytes tree × Breaks tree breach
+BreaksFirst bytes breach = (tree : Desc) × HasTree bytes tree × (first_broken tree ≡ Some breach)
 
 -- This is the first rule that the text breaks, and the first place where it does: the text has no tree, or its tree breaks
 -- the rule.

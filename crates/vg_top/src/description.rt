@@ -3,6 +3,7 @@ ghost use Rattle.vg_tok.specs.Lexing.{Lexes};
 ghost use Rattle.vg_ast.specs.Description.{Reads};
 ghost use Rattle.vg_iss.specs.Kept.{is_memory_free};
 ghost use Rattle.vg_inline.specs.Rules.{IsFolded};
+ghost use Rattle.vg_width.specs.Rules.{breach_in};
 ghost use Rattle.vg_top.specs.Description.{HasTree, IsBuilt, IsUnlike, IsDescription, IsFaultOf};
 ghost use Rattle.vg_top.specs.Reason.{lacking};
 ghost use Rattle.vg_top.specs.Faulting.{IsBuildFault, IsFaultFor};
@@ -20,6 +21,7 @@ use vg_isa::Isa;
 use vg_parse::{ParseFault, parse};
 use vg_rule::Rule;
 use vg_tok::{Token, tokens};
+use vg_width::check;
 
 /// The tokens of a text.
 #[tactic(auto, using(crate::proofs::Described::token_faulty))]
@@ -61,6 +63,16 @@ fn folded(alloc: Global, tree: Desc) -> Result<Plain, DescriptionFault>
     Ok(fold(alloc, tree)?)
 }
 
+/// A folded description keeps the rules of types, formats, behaviours, the binary interface, stages and limits.
+#[tactic(auto, using(crate::proofs::Described::check_faulty))]
+fn checked(alloc: Global, plain: &Plain) -> Result<(), DescriptionFault>
+    requires folded { IsFolded plain.now.description plain.now }
+    ensures kept { IfOk result (λ _. breach_in plain.now.description ≡ None) }
+    ensures fault { IfErr result (λ fault. (bytes : List ℕ) → HasTree bytes plain.now.description → IsFaultOf bytes fault) }
+{
+    Ok(check(alloc, plain)?)
+}
+
 /// The processor of a folded description, or the place of the first thing that isn't built yet.
 fn isa_of_plain(alloc: Global, plain: &Plain) -> Result<Isa, FormFault>
     requires folded { IsFolded plain.now.description plain.now }
@@ -94,6 +106,7 @@ fn description_of(alloc: Global, text: &[u8]) -> Result<Isa, DescriptionFault>
 {
     let tree = tree_of(alloc, text)?;
     let plain = folded(alloc, tree)?;
+    checked(alloc, &plain)?;
     let isa = built(alloc, &plain)?;
     let _ = isa.parts();
     Ok(isa)

@@ -3,12 +3,13 @@
 use Rattle.std.specs.Prelude.{◌≡◌, ℕ, List, [], Option, None}
 use Rattle.vg_ast.specs.declared.desc.Desc.{Desc}
 use Rattle.vg_inline.specs.InPlace.{known_of}
+use Rattle.vg_inline.specs.Rules.{breach_of}
 use Rattle.vg_type.specs.Item.{setting_of, wrong_widths, wrong_ranges}
 use Rattle.vg_isa.specs.declared.isa.Parts.{Parts}
 use Rattle.vg_rule.specs.declared.rule.Rule.{Rule}
 use Rattle.vg_rule.specs.declared.rule.Rule.TheVariants as rules
 use Rattle.vg_rule.specs.declared.breach.Breach.{Breach}
-use Rattle.vg_rule.specs.Breach.{first_breach}
+use Rattle.vg_rule.specs.Breach.{first_breach, or_later}
 use Rattle.vg_rule.specs.Order.{check_order}
 use Rattle.vg_width.specs.FieldCover.{covers}
 use Rattle.vg_width.specs.FieldValue.{values}
@@ -35,6 +36,15 @@ places_of d _ = []
 -- the first of these rules that is broken, at its first place
 unfoldable pub breach_in : Desc → Option Breach
 breach_in d = first_breach (places_of d) check_order
+
+-- The rule that a description breaks first, at its first place: of those of names, constants and the number of nodes, and
+-- of these behind them.
+unfoldable pub first_broken : Desc → Option Breach
+first_broken d = or_later (breach_of d) (breach_in d)
+
+-- a description keeps all of them
+abbrev pub KeepsRules : Desc → Type 0
+KeepsRules d = first_broken d ≡ None
 
 -- the processor that a description stands for
 unfoldable pub isa_of : Desc → Parts

@@ -16,6 +16,8 @@
 //! names bit 8 again.
 #![tactic(auto)]
 
+mod checking;
 mod laws;
 
+pub use checking::check;
 pub use laws::one_answer;
