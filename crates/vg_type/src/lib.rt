@@ -38,9 +38,12 @@ mod taking;
 mod value_type;
 mod written;
 
+pub use declaring::{is_bits, width_in};
+pub use fields::low_of;
+pub use finding::find;
 pub use judgement::Judgement;
 pub use judging::judged;
 pub use names::Names;
 pub use setting::Setting;
 pub use sort::Sort;
-pub use value_type::ValueType;
+pub use value_type::{ValueType, fits};
