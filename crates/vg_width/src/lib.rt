@@ -16,6 +16,14 @@
 //! names bit 8 again.
 #![tactic(auto)]
 
+mod counts;
+mod field_cover;
 mod laws;
+mod limit;
+mod mask;
+mod number;
+mod span;
 
+pub use field_cover::first_uncovered;
 pub use laws::one_answer;
+pub use limit::first_beyond;
