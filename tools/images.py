@@ -1,7 +1,8 @@
 #!/usr/bin/env python3
 """Makes crates/vg_cases/data/lines.cases: images whose texts are cut at every byte, and images with each line broken in turn,
-with the line at which each is refused. The judge goes by the definition: a text is refused at the first line such that no
-spelling begins with the lines up to and with it, or at one more than there are lines."""
+with the line at which each is refused; images at both ends of the address space, and of the greatest length. The judge goes by
+the definition: a text is refused at the first line such that no spelling begins with the lines up to and with it, or at one
+more than there are lines."""
 import re
 
 from cases import file, keep, section
@@ -167,4 +168,45 @@ def rows():
         yield case("a line of %d bytes in front of another" % count, with_lines({9: ["bytes " + digits]}))
 
 
-keep("lines.cases", [section("text T", T), *cuts(), *breaks(), *names(), *ends(), *rows()])
+LIMIT = 8 << 20
+
+
+def filled(lines, repeated, more=0):
+    """How many times a line is to stand so that a text has 8 MiB and so many bytes more, and a name that takes up the rest."""
+    size = len(repeated) + 1
+    times, rest = divmod(LIMIT + more - len(text(lines)) + size, size)
+    return times, "T" * (1 + rest)
+
+
+def long_case(title, lines, repeated, given, changes=(), more=0):
+    """A case of an image of 8 MiB and so many bytes more, in which one of the lines is repeated."""
+    times, name = filled(lines, repeated, more)
+    made = ["line %d times %d" % (lines.index(repeated) + 1, times), *changes]
+    return (
+        section("case " + title, "")
+        + section("words run d.vadl i.image 10", "")
+        + section("file d.vadl: use T", "")
+        + section("with line 1 = instruction set architecture %s = {" % name, "")
+        + file("i.image", text(["image " + name] + lines[1:]))
+        + "".join(section("with " + change, "") for change in made)
+        + section("answer %d" % given.startswith("refused: "), given + "\n")
+    )
+
+
+def longest():
+    """Images of the greatest length, and of one byte more."""
+    code, data = SMALL[5], "bytes " + 32 * "0"
+    lines = SMALL[:8] + SMALL[12:]
+    times, _ = filled(lines, code)
+    end = 0x1000 + 4 * (times + 1)
+    lines[2:4] = ["entry 0x%08x" % (end - 8), "stop 0x%08x" % end]
+    last = len(lines) + times - 1
+    done = "ended after 2\npc 0x%08x\nX[1] 0x00000005\nX[3] 0x00000005" % end
+    broken_at = ["line %d = ene" % last]
+    yield long_case("8 MiB of code", lines, code, done)
+    yield long_case("8 MiB of code and a byte", lines, code, "refused: too long i.image", more=1)
+    yield long_case("8 MiB of code, the last line broken", lines, code, "refused: image line %d" % last, broken_at)
+    yield long_case("8 MiB of data", SMALL[:8] + [data] + SMALL[9:], data, "refused: not built at 9:1")
+
+
+keep("lines.cases", [section("text T", T), *cuts(), *breaks(), *names(), *ends(), *rows(), *longest()])

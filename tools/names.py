@@ -484,7 +484,8 @@ class Nodes:
         counted = {"as": e.parts[:1], "slice": e.parts[:1], "access": e.parts[2:]}.get(e.head, e.parts)
         parts = [self.of(part, inner) for part in counted]
         worth = binary_worth(e.head, *(part[0] for part in parts)) if e.head in BINARY else TYPED
-        return worth, 1 if isinstance(worth, int) else 1 + sum(part[1] for part in parts)
+        # a whole number is one node, also where a constant in it has no value
+        return worth, 1 + sum(part[1] for part in parts) if worth == TYPED else 1
 
     def of_statement(self, s, inner):
         if s.head == "block":

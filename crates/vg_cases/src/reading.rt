@@ -6,7 +6,8 @@
 //! @@ case TITLE
 //! @@ words run d.vadl i.image 10
 //! @@ file d.vadl: use T         a file; a named text, or the lines that follow
-//! @@ with line 7 = TEXT         changes the last file: also `line behind 7 = TEXT`, `no line 7`, `no last line feed`
+//! @@ with line 7 = TEXT         changes the last file: also `line behind 7 = TEXT`, `no line 7`, `line 7 times 100`,
+//!                               and `no last line feed`
 //! @@ pieces 16                  the most bytes that a put takes
 //! @@ failing-loads 0            which loads fail, counted from 0, and so `failing-puts`
 //! @@ answer 1                   the status; the lines that follow are what is written
@@ -50,15 +51,24 @@ fn numbered(text: &str) -> Option<(usize, &str)> {
     Some((number.parse::<usize>().ok()?, line))
 }
 
-/// A change of a line: `line 7 = TEXT`, `line behind 7 = TEXT`, or `no line 7`.
+/// A line number and how many times the line is to stand: `7 times 100`.
+fn repeated(text: &str) -> Option<(usize, Change<'_>)> {
+    let (number, count) = text.split_once(" times ")?;
+    let count = count.parse::<usize>().ok()?;
+    Some((number.parse::<usize>().ok()?, Change::Times(count)))
+}
+
+/// A change of a line: `line 7 = TEXT`, `line behind 7 = TEXT`, `line 7 times 100`, or `no line 7`.
 fn change_of(text: &str) -> Option<(usize, Change<'_>)> {
     if let Some(rest) = text.strip_prefix("line behind ") {
         let (number, line) = numbered(rest)?;
         return Some((number, Change::Behind(line)));
     }
     if let Some(rest) = text.strip_prefix("line ") {
-        let (number, line) = numbered(rest)?;
-        return Some((number, Change::Replace(line)));
+        return match numbered(rest) {
+            Some((number, line)) => Some((number, Change::Replace(line))),
+            None => repeated(rest),
+        };
     }
     let rest = text.strip_prefix("no line ")?;
     Some((rest.parse::<usize>().ok()?, Change::Remove))

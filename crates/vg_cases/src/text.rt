@@ -18,11 +18,20 @@ pub enum Change<'a> {
     Remove,
     /// This line stands behind it, behind line 0 in front of all.
     Behind(&'a str),
+    /// The line stands so many times.
+    Times(usize),
 }
 
 fn push_line(text: &mut String, line: &str) -> Result<(), AllocError> {
     text.push_str(line)?;
     text.push_str("\n")
+}
+
+fn push_times(text: &mut String, line: &str, count: usize) -> Result<(), AllocError> {
+    for _ in 0..count {
+        push_line(text, line)?;
+    }
+    Ok(())
 }
 
 /// The text with a line changed. Each of its lines ends with a line feed.
@@ -41,6 +50,7 @@ pub fn changed(
         match change {
             Change::Replace(other) if here => push_line(&mut made, other)?,
             Change::Remove if here => {}
+            Change::Times(count) if here => push_times(&mut made, line, count)?,
             Change::Behind(added) if here => {
                 push_line(&mut made, line)?;
                 push_line(&mut made, added)?;

@@ -4,7 +4,7 @@ use Rattle.std.specs.Prelude.{slice_get, sum_by}
 use Rattle.std.proofs.lemmas.List.Sums.{sum_by-cons}
 use Rattle.vg_bits.specs.BitValue.{BitValue}
 use Rattle.vg_isa.specs.declared.isa.Parts.{Parts}
-use Rattle.vg_isa.specs.declared.expr.Expr.{Expr, fold-Expr, fold_out-Expr, map-Expr, out-Expr, out-roll-Expr, roll-Expr, roll-out-Expr}
+use Rattle.vg_isa.specs.declared.expr.Expr.{Expr, fold-Expr, fold-roll-Expr, fold_out-Expr, map-Expr, out-Expr, out-roll-Expr, roll-Expr, roll-out-Expr}
 use Rattle.vg_isa.specs.declared.expr.Expr.TheOpen.{Expr-F}
 use Rattle.vg_isa.specs.declared.expr.Expr.TheVariants.{Const, Field, Pc, Reg, Mem, Unary, Binary, Cast, Slice, Join, If, outs-Const, outs-Field, outs-Pc, outs-Reg, outs-Mem, outs-Unary, outs-Binary, outs-Cast, outs-Slice, outs-Join, outs-If}
 use Rattle.vg_isa.specs.declared.ids.FieldId.{FieldId}
@@ -23,6 +23,7 @@ use Rattle.vg_graph.specs.Node.{AllBelow, IsIn, args_of, node_of, numbers_of, op
 use Rattle.vg_graph.specs.Tree.{IsTree, over}
 use Rattle.vg_graph.specs.Graph.{GraphValue, IsAdded, IsFit, IsShared}
 use Rattle.vg_graph.proofs.Gets.{gets-end, gets-pushed}
+use Rattle.vg_graph.proofs.LevelLemmas.{operands_in-map}
 use Rattle.vg_graph.proofs.TreeLemmas.{choose, tree_stays, tree_unique, tree_within}
 use Rattle.vg_graph.specs.Building.{AreTyped, Extends, StandAll, op_in, Step, enter, leave, IsReady, entering, from_top, operands_of, step_of, weight_of, size_of}
 
@@ -264,11 +265,13 @@ Extends-trans f g h one two = record {
 
 -- ---- widths
 
-AllTyped : Parts → List Expr → Type 0
+-- each of these trees is typed
+pub AllTyped : Parts → List Expr → Type 0
 AllTyped d [] = Unit {0}
 AllTyped d (e ∷ es) = IsTrue (is_typed d e) × AllTyped d es
 
-operands_typed : (d : Parts) (y : Expr-F Expr) → IsTrue (typing_step d (map-Expr Expr Typing (typing_of d) y)).is_typed → AllTyped d (operands_in y)
+-- the operands of a typed level are typed
+pub operands_typed : (d : Parts) (y : Expr-F Expr) → IsTrue (typing_step d (map-Expr Expr Typing (typing_of d) y)).is_typed → AllTyped d (operands_in y)
 unfolding AllTyped
 operands_typed d (Expr-F.Const b) h = tt
 operands_typed d (Expr-F.Field f) h = tt
@@ -284,6 +287,19 @@ operands_typed d (Expr-F.Join a b) h = ((both _ _ (both _ _ h).0).0, ((both _ _ 
 operands_typed d (Expr-F.If c a b) h =
     let three = (both _ _ (both _ _ h).0).0 in
     ((both _ _ (both _ _ three).0).0, ((both _ _ (both _ _ three).0).1, ((both _ _ three).1, tt)))
+
+typed_each : (d : Parts) (tree : ℕ → Expr) (ks : List ℕ) → AllTyped d (map tree ks) → (k : ℕ) → IsIn ks k → IsTrue (is_typed d (tree k))
+unfolding AllTyped
+typed_each d tree [] all k (place, at) = absurd (let h : slice_get {X = ℕ} [] place ≡ Some k = at in cc)
+typed_each d tree (n ∷ ks) all k (zero, at) = let same : n ≡ k = cc in subst (λ (m : ℕ). IsTrue (is_typed d (tree m))) same all.0
+typed_each d tree (n ∷ ks) all k (suc place, at) = typed_each d tree ks all.1 k (place, at)
+
+-- an operand of a typed tree is typed
+pub operand_typed : (d : Parts) (x : Expr-F ℕ) (tree : ℕ → Expr) → IsTrue (is_typed d (roll-Expr (map-Expr ℕ Expr tree x))) → (k : ℕ) → IsIn (operands_in x) k → IsTrue (is_typed d (tree k))
+operand_typed d x tree typed k among =
+    let open_ : typing_of d (roll-Expr (map-Expr ℕ Expr tree x)) ≡ typing_step d (map-Expr Expr Typing (typing_of d) (map-Expr ℕ Expr tree x)) = fold-roll-Expr Typing (typing_step d) (map-Expr ℕ Expr tree x) in
+    let all : AllTyped d (operands_in (map-Expr ℕ Expr tree x)) = operands_typed d (map-Expr ℕ Expr tree x) (subst (λ (t : Typing). IsTrue t.is_typed) open_ typed) in
+    typed_each d tree (operands_in x) (subst (λ (es : List Expr). AllTyped d es) (operands_in-map Expr x tree) all) k among
 
 typed_before : (d : Parts) (ops : List Expr) (steps : List Step) → AllTyped d ops → AreTyped d steps → AreTyped d (map enter ops ++ steps)
 unfolding AllTyped

@@ -11,3 +11,5 @@ pub mod EdgeLemmas
 pub mod SameLemmas
 pub mod TableLemmas
 pub mod Walking
+pub mod BehaviourLemmas
+pub mod ValueLemmas

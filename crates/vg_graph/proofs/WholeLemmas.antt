@@ -1,5 +1,5 @@
 -- What a graph keeps.
-use Rattle.std.proofs.Common.{◌≡◌, ℕ, ◌<◌, inl, inr, List, [], ◌∷◌, ◌++◌, length, get_or, map, IsTrue, Option, Some, None, refl, sym, ap, ◌∙◌, subst, arith}
+use Rattle.std.proofs.Common.{◌≡◌, ℕ, ◌+◌, ◌^◌, ◌<◌, inl, inr, List, [], ◌∷◌, ◌++◌, length, get_or, map, IsTrue, Option, Some, None, refl, sym, ap, ◌∙◌, subst, arith}
 use Rattle.std.specs.Prelude.{slice_get, Result, Ok, Err, IfOk, OnErr}
 use Rattle.std.proofs.lemmas.List.{length-append, length-map}
 use Rattle.std.proofs.lemmas.Option.{slice_get-get_or, slice_get-map, none-some, same_Some}
@@ -66,10 +66,11 @@ whole_same d old new all kept store same = record {
   store = store;
   trees = trees_same d old new kept.trees same.nodes;
   roots = λ r n at. subst (λ (ns : List Node). n < length ns) (sym same.nodes) (kept.roots r n at);
+  few = subst (λ (ns : List Node). length ns < 2 ^ 32) (sym same.nodes) kept.few;
 }
 
-whole_appended : (d : Parts) (old new : Store) (all : Roots) (node : Node) → IsWhole d old all → IsStore new → IsFit (graph_of d old all) node → new.nodes.items ≡ old.nodes.items ++ node ∷ [] → IsWhole d new all
-whole_appended d old new all node kept store fit nodes = record {
+whole_appended : (d : Parts) (old new : Store) (all : Roots) (node : Node) → IsWhole d old all → IsStore new → IsFit (graph_of d old all) node → length old.nodes.items + 1 < 2 ^ 32 → new.nodes.items ≡ old.nodes.items ++ node ∷ [] → IsWhole d new all
+whole_appended d old new all node kept store fit room nodes = record {
   store = store;
   trees =
       subst (λ (ns : List Node). HaveTrees d ns) (sym nodes)
@@ -80,12 +81,13 @@ whole_appended d old new all node kept store fit nodes = record {
   roots = λ r n at.
       let below : n < length old.nodes.items = kept.roots r n at in
       subst (λ (ns : List Node). n < length ns) (sym nodes) (omega (arith, length-append old.nodes.items (node ∷ [])));
+  few = subst (λ (ns : List Node). length ns < 2 ^ 32) (sym nodes) (omega (arith, length-append old.nodes.items (node ∷ [])));
 }
 
-pub whole_added : (d : Parts) (old new : Store) (all : Roots) (node : Node) (E : Type 0) (r : Result ℕ E) → IsWhole d old all → IsStore new → IsFit (graph_of d old all) node → IfOk r (λ n. IsStoreAdded old new node n) → OnErr r (SameNodes old new) → IsWhole d new all
-whole_added d old new all node E (Ok n) kept store fit (inl present) err = whole_same d old new all kept store present.same
-whole_added d old new all node E (Ok n) kept store fit (inr appended) err = whole_appended d old new all node kept store fit appended.nodes
-whole_added d old new all node E (Err e) kept store fit ok err = whole_same d old new all kept store err
+pub whole_added : (d : Parts) (old new : Store) (all : Roots) (node : Node) (E : Type 0) (r : Result ℕ E) → IsWhole d old all → IsStore new → IsFit (graph_of d old all) node → length old.nodes.items + 1 < 2 ^ 32 → IfOk r (λ n. IsStoreAdded old new node n) → OnErr r (SameNodes old new) → IsWhole d new all
+whole_added d old new all node E (Ok n) kept store fit room (inl present) err = whole_same d old new all kept store present.same
+whole_added d old new all node E (Ok n) kept store fit room (inr appended) err = whole_appended d old new all node kept store fit room appended.nodes
+whole_added d old new all node E (Err e) kept store fit room ok err = whole_same d old new all kept store err
 
 -- the graph after a node was asked for
 pub graph_added : (d : Parts) (old new : Store) (all : Roots) (node : Node) (n : ℕ) → IsStoreAdded old new node n → IsAdded (graph_of d old all) (graph_of d new all) node n
@@ -154,6 +156,7 @@ module _ (d : Parts) (s t : Store) (all : Roots) (old new : ℕ) (whole : IsWhol
         let found = root_renamed old new all r n at in
         let within : n < length s.nodes.items = rw found.2 (renamed_within found.0 (whole.roots r found.0 found.1)) in
         subst (λ (ns : List Node). n < length ns) (sym nodes) (rw (length-map s.nodes.items (renamed_node old new)) within);
+    few = subst (λ (ns : List Node). length ns < 2 ^ 32) (sym nodes) (rw (length-map s.nodes.items (renamed_node old new)) whole.few);
   }
     where
       renamed_within : (m : ℕ) → m < length s.nodes.items → renamed old new m < length s.nodes.items

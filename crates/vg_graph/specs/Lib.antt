@@ -8,5 +8,7 @@ pub mod Same
 pub mod Table
 pub mod Store
 pub mod Whole
+pub mod Behaviour
 pub mod Building
 pub mod Walk
+pub mod NodeValue

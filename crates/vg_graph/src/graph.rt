@@ -1,3 +1,4 @@
+use crate::behaviour::add_parts;
 use crate::node::Node;
 use crate::root::Root;
 use crate::roots::Roots;
@@ -5,7 +6,7 @@ use crate::store::Store;
 use sqlite_items::Items;
 use std::alloc::{AllocError, Global};
 use std::marker::Model;
-use vg_isa::Isa;
+use vg_isa::{InstrId, Isa};
 
 /// The nodes of a behaviour, which share what they have in common.
 #[derive(Drop)]
@@ -41,7 +42,8 @@ impl<'a> Graph<'a> {
     ghost use Rattle.vg_isa.specs.Value.{Reads};
     ghost use Rattle.vg_graph.specs.Tree.{Uses};
     ghost use Rattle.vg_graph.specs.Replaced.{HaveOneValue, HaveOneWidth, replaced};
-    ghost use Rattle.vg_graph.specs.Graph.{AreUsers, IsAdded, IsFit, IsGraph, edges_of, root_of, users_of};
+    ghost use Rattle.vg_graph.specs.Graph.{AreUsers, IsAdded, IsFit, IsGraph, IsShared, edges_of, root_of, users_of};
+    ghost use Rattle.vg_graph.specs.Behaviour.{AreRootsOf, IsGraphOfNumber};
 
     /// A graph without nodes, for a behaviour of this description.
     pub fn empty(alloc: Global, isa: &'a Isa) -> Result<Graph<'a>, AllocError>
@@ -60,6 +62,21 @@ impl<'a> Graph<'a> {
         Ok(Graph { isa, store, roots })
     }
 
+    /// The graph of an instruction: each part of it has a root, at which its tree stands. Equal nodes are one.
+    ///
+    /// It takes time for the nodes of the trees, and memory for those that differ. A tree may be deep.
+    pub fn of(alloc: Global, isa: &'a Isa, i: InstrId) -> Result<Graph<'a>, AllocError>
+        requires { i.0 < length isa.now.instrs }
+        ensures isa { IfOk result (λ g. g.isa ≡ isa.now) }
+        ensures graph { IfOk result (λ g. IsGraphOfNumber isa.now i.0 g) }
+        ensures shared { IfOk result (λ g. IsShared g) }
+    {
+        let mut graph = Graph::empty(alloc, isa)?;
+        let roots = add_parts(&mut graph, alloc, isa.instr(i))?;
+        graph.set_roots(roots);
+        Ok(graph)
+    }
+
     /// The description of which the behaviour is.
     pub fn isa(&self) -> &'a Isa
         ensures isa { result.now ≡ self.now.isa }
@@ -70,7 +87,6 @@ impl<'a> Graph<'a> {
 
     /// How many nodes there are. They go by the numbers from 0 on.
     pub fn count(&self) -> u32
-        requires { length self.now.nodes < 2 ^ 32 }
         ensures { result ≡ length self.now.nodes }
     {
         self.store.nodes.len() as u32
@@ -89,6 +105,22 @@ impl<'a> Graph<'a> {
         ensures { result ≡ root_of self.now.roots r }
     {
         self.roots.node(r)
+    }
+
+    /// The nodes that stand for the parts of the instruction.
+    pub fn roots(&self) -> &Roots
+        ensures roots { result.now ≡ self.now.roots }
+        ensures graph { IsGraph self.now }
+    {
+        &self.roots
+    }
+
+    /// Other nodes stand for the parts. All else stays.
+    pub fn set_roots(&mut self, roots: Roots)
+        requires { AreRootsOf self.old roots }
+        ensures { self.new ≡ record self.old { roots = roots } }
+    {
+        self.roots = roots;
     }
 
     /// The first of the edges that name the node; None where there is none.
@@ -125,6 +157,7 @@ impl<'a> Graph<'a> {
         requires edges { length (edges_of self.old.nodes) + length (args_of node) < 2 ^ 32 }
         ensures ok { IfOk result (λ n. IsAdded self.old self.new node n) }
         ensures err { OnErr result (self.new ≡ self.old) }
+        ensures graph { IsGraph self.new }
     {
         self.store.add(&node)
     }
@@ -134,6 +167,7 @@ impl<'a> Graph<'a> {
         requires { IsFit self.old node }
         ensures ok { IfOk result (λ n. IsAdded self.old self.new node n) }
         ensures err { OnErr result (self.new ≡ self.old) }
+        ensures graph { IsGraph self.new }
     {
         let nodes = self.store.nodes.len() + 1;
         let edges = self.store.edges.len() + node.args.count() as usize;

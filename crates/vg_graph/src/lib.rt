@@ -9,6 +9,10 @@
 //! edges, and its roots. Each node has a tree, whose operands have the widths that their places need, so no node uses
 //! itself. The edges kept for a node are exactly those that name it, each once (`AreUsers`).
 //!
+//! - [`Graph::of`] is the graph of an instruction: no two nodes have one operator and the same operands, and at each root
+//!   stands the tree of its part of the instruction (`IsGraphOf`). So each root has the value of that tree for each word
+//!   in each state (law [`values_of_trees`]).
+//! - [`Graph::set_roots`] lets other nodes stand for the parts.
 //! - [`Graph::add`] gives the node that is there with this operator and these operands, or puts it behind the others
 //!   (`IsAdded`); all else stays, and a refusal changes nothing.
 //! - [`Graph::replace_uses`] puts one node in place of another in every operand and every root (`replaced`); all else
@@ -20,8 +24,8 @@
 //! that change nothing; the normal form of graphs stands on it.
 //!
 //! **How.** Nodes are found by a table of buckets, which grows with them, so `add` takes constant time on average.
-//! `replace_uses` takes time for the users of the old node, and moves their list at once. Only `empty` and `add` take
-//! memory.
+//! `replace_uses` takes time for the users of the old node, and moves their list at once. `of` goes over the trees by a list
+//! of what is still to do, so they may be deep. Only `empty`, `of` and `add` take memory.
 //!
 //! **Limits.** All nodes together, and all edges together, stay below 2^32; `add` asks for it. After `replace_uses` two
 //! nodes may have one operator and the same operands. Nodes that nothing uses stay.
@@ -34,9 +38,11 @@
 //! ```
 #![tactic(auto)]
 
+mod behaviour;
 mod building;
 mod graph;
 mod hashing;
+mod laws;
 mod node;
 mod operands;
 mod operator;
@@ -48,6 +54,7 @@ mod table;
 mod task;
 
 pub use graph::Graph;
+pub use laws::values_of_trees;
 pub use node::Node;
 pub use operands::Operands;
 pub use operator::Op;

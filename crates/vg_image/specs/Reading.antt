@@ -21,7 +21,8 @@ abbrev pub IsBeginning : Parts → List (List ℕ) → Type 0
 IsBeginning d lines = (i : Image) × IsImage d i × ((more : List (List ℕ)) × (lines_of (spelling d i) ≡ lines ++ more))
 
 -- The line at which a text that is no spelling is refused: the first such that no spelling begins with the lines up to
--- and with it. Where there is none, since each line is right and more must follow, it is one more than the number of lines.
+-- and with it. Where there is none, since each line is right and more must follow, it is one more than the number of
+-- lines.
 pub record IsFaultLine (d : Parts) (text : List ℕ) (line : ℕ) : Type 0 where
   pub no_image : IsNoImage d text
   pub before : (k : ℕ) → k < line → IsBeginning d (take k (lines_of text))

@@ -67,8 +67,8 @@ is_word name = nat_lt 0 (length name) && list_all is_word_byte name
 abbrev pub IsSymbol : Parts → Symbol → Type 0
 IsSymbol d symbol = IsTrue (is_word symbol.name) × (symbol.at < 2 ^ d.pc.width)
 
--- what a spelled image keeps: addresses below 2 ^ W, a base on a word's boundary, words and bytes of their widths, code and
--- data that end at 2 ^ W at most, and symbols
+-- what a spelled image keeps: addresses below 2 ^ W, a base on a word's boundary, words and bytes of their widths, code
+-- and data that end at 2 ^ W at most, and symbols
 pub record IsImage (d : Parts) (i : Image) : Type 0 where
   pub aligned : i.base % word_bytes d ≡ 0
   pub base : i.base < 2 ^ d.pc.width

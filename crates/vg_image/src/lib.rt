@@ -62,4 +62,6 @@ pub use reader::read;
 pub use writer::write;
 
 #[cfg(test)]
+mod longest;
+#[cfg(test)]
 mod tests;

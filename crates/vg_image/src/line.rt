@@ -60,7 +60,8 @@ pub(crate) fn push_bytes<'a>(
     count: usize,
     text: &'a [u8],
 ) -> Result<&'a [u8], Refusal>
-    ensures { Reader.Gives (λ rest. (bytes.new, rest.now)) result (Reader.with_front bytes.old (Reader.bytes_at count text.now)) }
+    ensures { Reader.Gives (λ rest. (bytes.new, rest.now)) result
+        (Reader.with_front bytes.old (Reader.bytes_at count text.now)) }
 {
     let mut rest = text;
     for _ in 0..count {

@@ -10,7 +10,7 @@ use vg_isa::{Isa, Parts, PcDecl};
 
 /// A description without instructions.
 #[tactic(auto, unfolding(vg_isa::specs::Accepted::is_isa))]
-fn description(alloc: Global, word: u8, address: u8) -> Result<Isa, AllocError>
+pub(crate) fn description(alloc: Global, word: u8, address: u8) -> Result<Isa, AllocError>
     requires word { IsTrue (is_machine_width word) }
     requires address { IsTrue (is_machine_width address) }
 {
@@ -51,20 +51,34 @@ fn end_text(alloc: Global, base: &[u8], word: &[u8], last: &[u8]) -> Result<Vec<
 }
 
 /// Whether a text spells an image whose spelling it is.
-fn is_written_back(alloc: Global, isa: &Isa, text: &[u8]) -> Result<bool, ImageFault> {
+pub(crate) fn is_written_back(alloc: Global, isa: &Isa, text: &[u8]) -> Result<bool, ImageFault> {
     let image = read(alloc, isa, text)?;
     let written = write(alloc, isa, &image)?;
     Ok(written.as_slice() == text)
 }
 
 #[test]
-fn ends_of_the_address_space(rt: HostRuntime) -> Result<(), Fail> {
+fn ends_of_16_bits(rt: HostRuntime) -> Result<(), Fail> {
     let isa = description(rt.alloc(), 16, 16)?;
     let text = end_text(rt.alloc(), b"fffe", b"0013", b"ffff")?;
     assert!(rt; is_written_back(rt.alloc(), &isa, text.as_slice())?);
+    let text = end_text(rt.alloc(), b"0000", b"ffff", b"0000")?;
+    assert!(rt; is_written_back(rt.alloc(), &isa, text.as_slice())?);
+    Ok(())
+}
+
+#[test]
+fn ends_of_32_bits(rt: HostRuntime) -> Result<(), Fail> {
     let isa = description(rt.alloc(), 64, 32)?;
     let text = end_text(rt.alloc(), b"fffffff8", b"0123456789abcdef", b"ffffffff")?;
     assert!(rt; is_written_back(rt.alloc(), &isa, text.as_slice())?);
+    let text = end_text(rt.alloc(), b"00000000", b"ffffffffffffffff", b"00000000")?;
+    assert!(rt; is_written_back(rt.alloc(), &isa, text.as_slice())?);
+    Ok(())
+}
+
+#[test]
+fn ends_of_64_bits(rt: HostRuntime) -> Result<(), Fail> {
     let isa = description(rt.alloc(), 32, 64)?;
     let text = end_text(
         rt.alloc(),
@@ -73,11 +87,10 @@ fn ends_of_the_address_space(rt: HostRuntime) -> Result<(), Fail> {
         b"ffffffffffffffff",
     )?;
     assert!(rt; is_written_back(rt.alloc(), &isa, text.as_slice())?);
-    let isa = description(rt.alloc(), 64, 64)?;
     let text = end_text(
         rt.alloc(),
         b"0000000000000000",
-        b"ffffffffffffffff",
+        b"ffffffff",
         b"0000000000000000",
     )?;
     assert!(rt; is_written_back(rt.alloc(), &isa, text.as_slice())?);

@@ -56,7 +56,8 @@ fn push_address(out: &mut Vec<u8>, isa: &Isa, word: &[u8], at: u64) -> Result<()
 /// Appends the lines of code words.
 fn push_code(out: &mut Vec<u8>, isa: &Isa, words: &[u64]) -> Result<(), AllocError>
     requires { All (λ word. word < 2 ^ isa.now.word) words.now }
-    ensures { OnOk result (out.new.items ≡ out.old.items ++ flat_map (λ word. ended_line (code_text isa.now word)) words.now) }
+    ensures { OnOk result (out.new.items
+        ≡ out.old.items ++ flat_map (λ word. ended_line (code_text isa.now word)) words.now) }
 {
     for word in words {
         push_word(out, isa, *word)?;
@@ -109,7 +110,8 @@ fn push_digits(out: &mut Vec<u8>, bytes: &[u8]) -> Result<(), AllocError>
 /// Appends the lines of symbols.
 fn push_symbols(out: &mut Vec<u8>, isa: &Isa, symbols: &[Symbol]) -> Result<(), AllocError>
     requires { All (IsSymbol isa.now) symbols.now }
-    ensures { OnOk result (out.new.items ≡ out.old.items ++ flat_map (λ symbol. ended_line (symbol_text isa.now symbol)) symbols.now) }
+    ensures { OnOk result (out.new.items
+        ≡ out.old.items ++ flat_map (λ symbol. ended_line (symbol_text isa.now symbol)) symbols.now) }
 {
     for symbol in symbols {
         push_symbol(out, isa, symbol)?;

@@ -36,10 +36,10 @@ width_by n P h a b c d e false false false false hx hy hz hu = let k : 64 ≡ n 
 width_cases : (n : ℕ) (P : ℕ → Type 0) → is_integer_width n ≡ true → P 1 → P 8 → P 16 → P 32 → P 64 → P n
 width_cases n P h a b c d e = width_by n P h a b c d e (nat_eq n 1) (nat_eq n 8) (nat_eq n 16) (nat_eq n 32) refl refl refl refl
 
-simple_integer : (n : ℕ) → is_integer_width n ≡ true → simple_type (integer_text n) ≡ Some (ty.Int n)
+pub simple_integer : (n : ℕ) → is_integer_width n ≡ true → simple_type (integer_text n) ≡ Some (ty.Int n)
 simple_integer n h = width_cases n (λ m. simple_type (integer_text m) ≡ Some (ty.Int m)) h refl refl refl refl refl
 
-simple_pointer : simple_type (codes "ptr") ≡ Some ty.Ptr
+pub simple_pointer : simple_type (codes "ptr") ≡ Some ty.Ptr
 simple_pointer = refl
 
 simple_local_by : (c : ℕ) (cs : List ℕ) (b : Bool) → (c == 37) ≡ b → is_local (c ∷ cs) ≡ true → simple_type (c ∷ cs) ≡ Some (ty.Named (name_of (name_bytes (c ∷ cs))))
@@ -50,7 +50,7 @@ simple_local_by c cs true k h =
     subst P e at37 h
 simple_local_by c cs false k h = let e : is_local (c ∷ cs) ≡ false = rw k refl in absurd (cc)
 
-simple_local : (text : List ℕ) → is_local text ≡ true → simple_type text ≡ Some (ty.Named (name_of (name_bytes text)))
+pub simple_local : (text : List ℕ) → is_local text ≡ true → simple_type text ≡ Some (ty.Named (name_of (name_bytes text)))
 simple_local [] h = absurd (cc)
 simple_local (c ∷ cs) h = simple_local_by c cs (c == 37) refl h
 
@@ -132,10 +132,10 @@ struct_of types spots rest = reads (record { ty = ty.Struct types; leaves = spot
 abbrev pub closed : Mark → List Slot → List Slot
 closed closing behind = last_of_type plain (marked (codes "}") closing) ∷ behind
 
-max_left : (a b d : ℕ) → max a b < d → a < d
+pub max_left : (a b d : ℕ) → max a b < d → a < d
 max_left a b d h = grind (arith, nat_tests)
 
-max_right : (a b d : ℕ) → max a b < d → b < d
+pub max_right : (a b d : ℕ) → max a b < d → b < d
 max_right a b d h = grind (arith, nat_tests)
 
 -- a type is read where the reader may go d brackets deep
@@ -160,7 +160,7 @@ array_complete opening m by element closing h d e w behind =
     (e (wanted roles.AnyType) any_type (last_of_type plain (marked (codes "]") closing) ∷ behind))
 
 -- the fields are read from one on that is read
-FieldsRead : ℕ → MoreTypes → Type 0
+pub FieldsRead : ℕ → MoreTypes → Type 0
 FieldsRead d more = (fuel : ℕ) (types : List Ty) (spots : List Spot) (first : Part) (ts : List Placed) (closing : Mark) (behind : List Slot) → types_count more < fuel
     → part_within d (wanted roles.AnyType) ts ≡ reads (first, lexemes_of (spelled_more_types more (closed closing behind)))
     → fields_at fuel (part_within d) types spots ts ≡ struct_of (types ++ first.ty ∷ tree.types_of more) (spots ++ (first.leaves ++ tree.more_leaves more)) (lexemes_of behind)
@@ -185,7 +185,7 @@ one_more_read d comma t more i j (suc fuel) types spots first ts closing behind 
     ∙ (ap (λ z. struct_of z ((spots ++ first.leaves) ++ (tree.all_leaves t ++ tree.more_leaves more)) (lexemes_of behind)) (append_assoc types (first.ty ∷ []) (tree.type_of t ∷ tree.types_of more))
     ∙ ap (λ z. struct_of (types ++ first.ty ∷ tree.type_of t ∷ tree.types_of more) z (lexemes_of behind)) (append_assoc spots first.leaves (tree.all_leaves t ++ tree.more_leaves more))))
 
-structure_complete : (opening : Mark) (first : TypeTree) (more : MoreTypes) (closing : Mark) (d : ℕ) → IsRead d first → FieldsRead d more
+pub structure_complete : (opening : Mark) (first : TypeTree) (more : MoreTypes) (closing : Mark) (d : ℕ) → IsRead d first → FieldsRead d more
     → (w : Wanted) (behind : List Slot)
     → bracketed_at (part_within d) w (marked (codes "{") opening) (lexemes_of (spelled_type any_type first (spelled_more_types more (closed closing behind))))
     ≡ reads (part_of (structure opening first more closing), lexemes_of behind)
@@ -213,7 +213,7 @@ mutual
       bracket_part d w _ _ refl
       ∙ structure_complete opening first more closing d (part_complete first p.0 d (max_left _ _ d m)) (more_complete more p.1 d (max_right _ _ d m)) w behind
 
-  more_complete : (more : MoreTypes) → are_more_types more ≡ true → (d : ℕ) → nesting_more more < d → FieldsRead d more
+  pub more_complete : (more : MoreTypes) → are_more_types more ≡ true → (d : ℕ) → nesting_more more < d → FieldsRead d more
   more_complete no_more_type h d n = no_more_read d
   more_complete (one_more_type comma t more) h d n =
       let p = both (is_type t) (are_more_types more) h in
@@ -221,7 +221,7 @@ mutual
 
 -- ---- with the place of the whole
 
-simple_whole : (w : Wanted) (first : Placed) (ts : List Placed) (t : Ty) → simple_type first.text ≡ Some t
+pub simple_whole : (w : Wanted) (first : Placed) (ts : List Placed) (t : Ty) → simple_type first.text ≡ Some t
     → type_at w (first ∷ ts) ≡ reads (record { ty = t; at = spot first.at; leaves = [] }, ts)
 simple_whole w first ts t h = rw h refl
 

@@ -30,7 +30,7 @@ use Rattle.vg_irparse.proofs.TypesSound.{mark_of, marked_is, text_is, same, IsFi
 -- ---- answers
 
 -- the same place is told, or nothing
-abbrev Again : {A : Type 0} → Answer A → ℕ → Wanted → Type 0
+abbrev pub Again : {A : Type 0} → Answer A → ℕ → Wanted → Type 0
 Again a m v = (a ≡ leaves m v) ⊎ (a ≡ too_deep)
 
 again_bind : {A B : Type 0} (o : Answer A) (f : A → Answer B) (m : ℕ) (v : Wanted) → Again o m v → Again (o >>= f) m v
@@ -115,7 +115,7 @@ length_stops (a ∷ bs) n v h = length_stops_by (is_length a.text) a bs n v refl
 -- ---- what a tree spells, and what is behind it
 
 mutual
-  type_append : (t : TypeTree) (r q : Role) (ts : List Slot) → lexemes_of (spelled_type r t ts) ≡ lexemes_of (spelled_type q t []) ++ lexemes_of ts
+  pub type_append : (t : TypeTree) (r q : Role) (ts : List Slot) → lexemes_of (spelled_type r t ts) ≡ lexemes_of (spelled_type q t []) ++ lexemes_of ts
   type_append (integer width at) r q ts = refl
   type_append (pointer at) r q ts = refl
   type_append (array opening n by element closing) r q ts =
@@ -150,10 +150,10 @@ mutual
       (i ∙ (ap (λ z. f ++ z) k ∙ (sym (append_assoc f m (lexemes_of ts)) ∙ ap (λ z. z ++ lexemes_of ts) (sym j))))
 
 -- any lexemes as slots
-slots_of : List Placed → List Slot
+pub slots_of : List Placed → List Slot
 slots_of ts = map (free plain) ts
 
-slots_are : (ts : List Placed) → lexemes_of (slots_of ts) ≡ ts
+pub slots_are : (ts : List Placed) → lexemes_of (slots_of ts) ≡ ts
 unfolding slots_of
 slots_are [] = refl
 slots_are (t ∷ ts) = ap (λ z. t ∷ z) (slots_are ts)
@@ -175,14 +175,14 @@ reread d deeper w t us g n h =
 
 -- ---- fronts
 
-abbrev no_mark : Mark
+abbrev pub no_mark : Mark
 no_mark = record { at = 0; fresh = false }
 
 abbrev no_length : Placed
 no_length = record { text = codes "0"; at = 0; fresh = false }
 
 -- some type begins with these lexemes and goes on
-abbrev TypeFront : List Placed → Type 0
+abbrev pub TypeFront : List Placed → Type 0
 TypeFront front = (written : TypeTree) × (is_type written ≡ true) × (s : Placed) × (more : List Placed)
     × ((r : Role) (behind : List Slot) → lexemes_of (spelled_type r written behind) ≡ front ++ s ∷ (more ++ lexemes_of behind))
 
@@ -197,18 +197,18 @@ FieldsFront front = (first : TypeTree) × (others : MoreTypes) × (closing : Mar
     × ((behind : List Slot) → lexemes_of (spelled_type any_type first (spelled_more_types others (closed closing behind))) ≡ front ++ s ∷ (more ++ lexemes_of behind))
 
 -- where a reader leaves: the lexemes in front begin so, and the next one decides alone, at `again` too
-record Stops (again : List Placed → ℕ → Type 0) (HasFront : List Placed → Type 0) (ts : List Placed) (n : ℕ) : Type 0 where
-  front : List Placed
-  rest : List Placed
-  whole : ts ≡ front ++ rest
-  count : length rest ≡ n
-  begun : HasFront front
-  local : (t : Placed) (others : List Placed) → rest ≡ t ∷ others → (us : List Placed) → again (front ++ t ∷ us) (length us + 1)
+pub record Stops (again : List Placed → ℕ → Type 0) (HasFront : List Placed → Type 0) (ts : List Placed) (n : ℕ) : Type 0 where
+  pub front : List Placed
+  pub rest : List Placed
+  pub whole : ts ≡ front ++ rest
+  pub count : length rest ≡ n
+  pub begun : HasFront front
+  pub local : (t : Placed) (others : List Placed) → rest ≡ t ∷ others → (us : List Placed) → again (front ++ t ∷ us) (length us + 1)
 
-abbrev PartStops : ℕ → Wanted → List Placed → ℕ → Wanted → Type 0
+abbrev pub PartStops : ℕ → Wanted → List Placed → ℕ → Wanted → Type 0
 PartStops deeper w ts n v = Stops (λ us m. Again (part_within deeper w us) m v) TypeFront ts n
 
-abbrev PartsStop : ℕ → ℕ → Type 0
+abbrev pub PartsStop : ℕ → ℕ → Type 0
 PartsStop d deeper = (w : Wanted) (ts : List Placed) (n : ℕ) (v : Wanted) → part_within d w ts ≡ leaves n v → PartStops deeper w ts n v
 
 -- ---- arrays
@@ -452,7 +452,7 @@ fields_stops (suc fuel) d deeper o s types spots ts n v h =
 
 -- ---- types
 
-bracket_again : (deeper : ℕ) (w : Wanted) (first : Placed) (ts : List Placed) → simple_type first.text ≡ None → part_within (suc deeper) w (first ∷ ts) ≡ bracketed_at (part_within deeper) w first ts
+pub bracket_again : (deeper : ℕ) (w : Wanted) (first : Placed) (ts : List Placed) → simple_type first.text ≡ None → part_within (suc deeper) w (first ∷ ts) ≡ bracketed_at (part_within deeper) w first ts
 unfolding part_within
 bracket_again deeper w first ts h = rw h refl
 
@@ -556,7 +556,7 @@ part_stops_by : (x : Option Ty) (d deeper : ℕ) → d ≤ deeper → PartsStop 
 part_stops_by (Some t) d deeper o s w first ts n v k h = reads_not h
 part_stops_by None d deeper o s w first ts n v k h = bracket_stops (bytes_eq first.text (codes "[")) (bytes_eq first.text (codes "{")) d deeper o s w first ts n v k refl refl h
 
-part_stops : (d deeper : ℕ) → d ≤ deeper → PartsStop d deeper
+pub part_stops : (d deeper : ℕ) → d ≤ deeper → PartsStop d deeper
 unfolding part_within
 part_stops zero deeper o w ts n v h = deep_not h
 part_stops (suc d) deeper o w [] n v h = nothing_part deeper w n v ((places 0 n w v h).0)

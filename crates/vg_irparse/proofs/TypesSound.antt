@@ -358,7 +358,7 @@ bracketed_by d false true read s w first ts x k l h =
     structure_is d first ts x.0 x.1 (text_is first.text (codes "{") l) (fields_sound d (length ts) read s [] [] ts x (sym (rw (k, l) refl) ∙ h))
 bracketed_by d false false read s w first ts x k l h = let e : leaves (length ts + 1) w ≡ reads x = sym (rw (k, l) refl) ∙ h in not_reads e
 
-bracketed_sound : (d : ℕ) → (read : Reader) → ReadsParts d read → (w : Wanted) (first : Placed) (ts : List Placed) (x : Part × List Placed) → bracketed_at read w first ts ≡ reads x → IsBracketed d first ts x.0 x.1
+pub bracketed_sound : (d : ℕ) → (read : Reader) → ReadsParts d read → (w : Wanted) (first : Placed) (ts : List Placed) (x : Part × List Placed) → bracketed_at read w first ts ≡ reads x → IsBracketed d first ts x.0 x.1
 bracketed_sound d read s w first ts x h = bracketed_by d (bytes_eq first.text (codes "[")) (bytes_eq first.text (codes "{")) read s w first ts x refl refl h
 
 part_of_bracketed : (d : ℕ) → (first : Placed) (ts : List Placed) (found : Part) (rest : List Placed) → IsBracketed d first ts found rest → IsPart (d + 1) (first ∷ ts) found rest
@@ -393,7 +393,7 @@ part_sound (suc d) w (t ∷ ts) x h =
 abbrev made : Ty → Spot → List Spot → TypeAt
 made t a l = record { ty = t; at = a; leaves = l }
 
-made_is : (t u : Ty) (a b : Spot) (l m : List Spot) → t ≡ u → a ≡ b → l ≡ m → made t a l ≡ made u b m
+pub made_is : (t u : Ty) (a b : Spot) (l m : List Spot) → t ≡ u → a ≡ b → l ≡ m → made t a l ≡ made u b m
 made_is t u a b l m e f g = ap (λ z. made z a l) e ∙ (ap (λ z. made u z l) f ∙ ap (λ z. made u b z) g)
 
 type_of_simple : (first : Placed) (ts : List Placed) (t : Ty) → IsSimple first t → IsTypeOf (first ∷ ts) (record { ty = t; at = spot first.at; leaves = [] }) ts

@@ -38,6 +38,13 @@ mod types;
 mod words;
 
 pub use laws::exact_types;
+pub use name::{bare_bytes, name_of};
+pub use part::Part;
+pub use number::{exact_value, kept_value};
 pub use role::{Role, Wanted};
 pub use stop::Stop;
+pub use table::{entry_of, is_one_of};
+pub use taking::{fixed_at, separator_at};
+pub use text::{are_digits, is_bare_name, is_global, is_local, is_number, is_quoted, is_word_name};
 pub use types::type_at;
+pub use words::integer_width;

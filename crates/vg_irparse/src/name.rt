@@ -111,7 +111,7 @@ fn unescaped(alloc: Global, text: &[u8]) -> Result<Text, AllocError>
 }
 
 /// The bytes of a name that is written without a `%` or `@`, or of a quoted text.
-pub(crate) fn bare_bytes(alloc: Global, text: &[u8]) -> Result<Text, AllocError>
+pub fn bare_bytes(alloc: Global, text: &[u8]) -> Result<Text, AllocError>
     ensures { IfOk result (λ bytes. bytes ≡ bare_bytes text.now) }
 {
     if let Some((first, rest)) = text.split_first() {
@@ -132,7 +132,7 @@ fn behind_first(text: &[u8]) -> &[u8]
 }
 
 /// A name that is written with its `%` or `@`.
-pub(crate) fn name_of(alloc: Global, text: &[u8]) -> Result<Name, AllocError>
+pub fn name_of(alloc: Global, text: &[u8]) -> Result<Name, AllocError>
     ensures { IfOk result (λ name. name ≡ name_of (name_bytes text.now)) }
 {
     let text = bare_bytes(alloc, behind_first(text))?;

@@ -16,7 +16,7 @@ fn with_digit(value: u64, digit: u8) -> Option<u64>
 
 /// The value of digits, where it is below 2 to the power of 64.
 #[tactic(auto, using(crate::proofs::Steps::value_steps))]
-pub(crate) fn exact_value(digits: &[u8]) -> Option<u64>
+pub fn exact_value(digits: &[u8]) -> Option<u64>
     ensures { SomeIff result (value_from 0 digits.now < 2 ^ 64) (value_from 0 digits.now) }
 {
     let mut value = 0;
@@ -30,7 +30,7 @@ pub(crate) fn exact_value(digits: &[u8]) -> Option<u64>
 }
 
 /// The value of digits, and 2^64 - 1 of those of a greater one.
-pub(crate) fn kept_value(digits: &[u8]) -> u64
+pub fn kept_value(digits: &[u8]) -> u64
     ensures { result ≡ kept (digits_value digits.now) }
 {
     match exact_value(digits) {

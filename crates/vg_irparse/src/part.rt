@@ -3,7 +3,7 @@ use vg_ir::{Spot, Ty};
 
 /// A type, and where the integers, `ptr`s and names in it stand.
 #[derive(Drop)]
-pub(crate) struct Part {
+pub struct Part {
     pub ty: Ty,
     pub leaves: Items<Spot>,
 }

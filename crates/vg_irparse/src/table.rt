@@ -3,7 +3,7 @@ ghost use Rattle.vg_irparse.specs.Rows.{rows, texts};
 ghost use Rattle.vg_irparse.specs.Words.{entry_of, is_one_of};
 
 /// What a table has under a word.
-pub(crate) fn entry_of<T: Copy>(table: &[(&[u8], T)], text: &[u8]) -> Option<T>
+pub fn entry_of<T: Copy>(table: &[(&[u8], T)], text: &[u8]) -> Option<T>
     ensures { result ≡ entry_of (rows table.now) text.now }
 {
     for entry in table {
@@ -15,7 +15,7 @@ pub(crate) fn entry_of<T: Copy>(table: &[(&[u8], T)], text: &[u8]) -> Option<T>
 }
 
 /// Whether a word is one of a list.
-pub(crate) fn is_one_of(table: &[&[u8]], text: &[u8]) -> bool
+pub fn is_one_of(table: &[&[u8]], text: &[u8]) -> bool
     ensures { result ≡ is_one_of (texts table.now) text.now }
 {
     for word in table {

@@ -11,7 +11,7 @@ use vg_irlex::{Lexeme, piece};
 
 /// These bytes, where they stand, and the lexemes behind them.
 #[tactic(auto, using(crate::proofs::Placed::placed_steps))]
-pub(crate) fn fixed_at<'a>(
+pub fn fixed_at<'a>(
     word: &[u8],
     wanted: Wanted,
     text: &[u8],
@@ -34,7 +34,7 @@ pub(crate) fn fixed_at<'a>(
 
 /// A comma, or the sign that ends a list: whether the list has ended, and the lexemes behind.
 #[tactic(auto, using(crate::proofs::Placed::placed_steps))]
-pub(crate) fn separator_at<'a>(
+pub fn separator_at<'a>(
     closing: &[u8],
     wanted: Wanted,
     text: &[u8],

@@ -30,7 +30,8 @@ fn all_digits(text: &[u8]) -> bool
     text.iter().all(|byte| byte.is_ascii_digit())
 }
 
-fn is_word_name(text: &[u8]) -> bool
+/// A word that is a name.
+pub fn is_word_name(text: &[u8]) -> bool
     ensures { result ≡ is_word_name text.now }
 {
     match text.split_first() {
@@ -40,7 +41,7 @@ fn is_word_name(text: &[u8]) -> bool
 }
 
 /// One or more digits.
-pub(crate) fn are_digits(text: &[u8]) -> bool
+pub fn are_digits(text: &[u8]) -> bool
     ensures { result ≡ are_digits text.now }
 {
     match text.split_first() {
@@ -62,7 +63,8 @@ fn ends_quote(text: &[u8]) -> bool
     false
 }
 
-fn is_quoted(text: &[u8]) -> bool
+/// A quoted text.
+pub fn is_quoted(text: &[u8]) -> bool
     ensures { result ≡ is_quoted text.now }
 {
     match text.split_first() {
@@ -72,13 +74,14 @@ fn is_quoted(text: &[u8]) -> bool
 }
 
 /// A name without its `%` or `@`.
-pub(crate) fn is_bare_name(text: &[u8]) -> bool
+pub fn is_bare_name(text: &[u8]) -> bool
     ensures { result ≡ is_bare_name text.now }
 {
     is_word_name(text) || are_digits(text) || is_quoted(text)
 }
 
-pub(crate) fn is_local(text: &[u8]) -> bool
+/// A `%` and a name.
+pub fn is_local(text: &[u8]) -> bool
     ensures { result ≡ is_local text.now }
 {
     match text.split_first() {
@@ -87,7 +90,8 @@ pub(crate) fn is_local(text: &[u8]) -> bool
     }
 }
 
-pub(crate) fn is_global(text: &[u8]) -> bool
+/// A `@` and a name.
+pub fn is_global(text: &[u8]) -> bool
     ensures { result ≡ is_global text.now }
 {
     match text.split_first() {
@@ -96,7 +100,8 @@ pub(crate) fn is_global(text: &[u8]) -> bool
     }
 }
 
-pub(crate) fn is_number(text: &[u8]) -> bool
+/// Digits, with a `-` before them or alone.
+pub fn is_number(text: &[u8]) -> bool
     ensures { result ≡ is_number text.now }
 {
     match text.split_first() {

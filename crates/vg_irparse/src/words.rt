@@ -14,7 +14,7 @@ const INTEGERS: [(&[u8], u8); 5] = [
 ];
 
 /// The width of an integer type.
-pub(crate) fn integer_width(text: &[u8]) -> Option<u8>
+pub fn integer_width(text: &[u8]) -> Option<u8>
     ensures { result ≡ entry_of integer_words text.now }
 {
     entry_of(&INTEGERS, text)

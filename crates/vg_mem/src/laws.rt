@@ -17,13 +17,14 @@ pub fn stored_is_loaded()
         → loaded (byte_in (stored space at bytes value m)) space at bytes ≡ value % 2 ^ (8 * bytes) }
 {}
 
-/// Pages for which room was made are taken, no call gives a page up, and where the pages of a range of addresses are taken
-/// each access in it has room.
+/// Pages for which room was made are taken, no call gives a page up, and where the pages of a range of addresses are
+/// taken each access in it has room.
 pub fn room_stays()
     ensures made { (m : Memory) (from to : ℕ) → HasPages (with_room m from to) from to }
     ensures room { (m : Memory) (from to : ℕ) → KeepsPages m (with_room m from to) }
     ensures store { (m : Memory) (at bytes value : ℕ) → KeepsPages m (after_store m at bytes value) }
-    ensures pages { (old new : Memory) (from to : ℕ) → KeepsPages old new → HasPages old from to → HasPages new from to }
+    ensures pages { (old new : Memory) (from to : ℕ)
+        → KeepsPages old new → HasPages old from to → HasPages new from to }
     ensures access { (m : Memory) (from to at bytes : ℕ) → HasPages m from to → from ≤ at → at + bytes ≤ to + 1
         → to < space_of m → HasRoom m at bytes }
 {}

@@ -20,9 +20,9 @@
 //!
 //! **Cost**: an access of 1, 2, 4 or 8 bytes that lies in a page whose hint is right takes a few
 //! nanoseconds, without a loop. Other sizes go byte by byte, and so do accesses that lie in two
-//! pages. A page takes 272 bytes, and is taken in logarithmic time. `next_set` passes over taken
-//! pages alone, so going through all set bytes costs what is taken, not the space of addresses. A
-//! `Mem` itself takes 4 KiB for its hints: hold one in place, and hand on references.
+//! pages. A page takes 264 bytes and an entry of the map, and is taken in logarithmic time. `next_set`
+//! passes over taken pages alone, so going through all set bytes costs what is taken, not the space of
+//! addresses. A `Mem` itself takes 4 KiB for its hints: hold one in place, and hand on references.
 //!
 //! **Limits**: no page is given back.
 //!

@@ -166,8 +166,10 @@ fn store_across(
     requires least { 8 ≤ width }
     requires most { width ≤ 64 }
     requires first { first < 2 ^ width }
-    ensures bytes { OnOk result (bytes_of pages.new.pages.items ≡ stored (2 ^ width) first bytes value (bytes_of pages.old.pages.items)) }
-    ensures pages { OnOk result (pages_of pages.new.pages.items ≡ pages_after (2 ^ width) first bytes (pages_of pages.old.pages.items)) }
+    ensures bytes { OnOk result (bytes_of pages.new.pages.items
+        ≡ stored (2 ^ width) first bytes value (bytes_of pages.old.pages.items)) }
+    ensures pages { OnOk result (pages_of pages.new.pages.items
+        ≡ pages_after (2 ^ width) first bytes (pages_of pages.old.pages.items)) }
     ensures err { OnErr result (bytes_of pages.new.pages.items ≡ bytes_of pages.old.pages.items) }
     ensures kept { OnErr result (AreKept (pages_of pages.old.pages.items) (pages_of pages.new.pages.items)) }
     ensures within { HasPagesOf (pages_of pages.old.pages.items) (2 ^ width) first bytes → IsOk result }
@@ -186,7 +188,8 @@ fn store_each(pages: &mut Pages, width: Width, at: u128, bytes: u8, value: u128)
     requires few { bytes ≤ 16 }
     requires range { at + bytes ≤ 2 ^ 65 }
     requires taken { HasPagesOf (pages_of pages.old.pages.items) (2 ^ width) at bytes }
-    ensures bytes { bytes_of pages.new.pages.items ≡ stored (2 ^ width) at bytes value (bytes_of pages.old.pages.items) }
+    ensures bytes { bytes_of pages.new.pages.items
+        ≡ stored (2 ^ width) at bytes value (bytes_of pages.old.pages.items) }
     ensures numbers { numbers_of pages.new.pages.items ≡ numbers_of pages.old.pages.items }
 {
     if bytes == 0 {

@@ -152,8 +152,10 @@ impl Pages {
         requires order { first ≤ end }
         requires end { end ≤ 2 ^ 56 }
         ensures bytes { bytes_of self.new.pages.items ≡ bytes_of self.old.pages.items }
-        ensures pages { OnOk result (pages_of self.new.pages.items ≡ pages_from first (end - first) (pages_of self.old.pages.items)) }
-        ensures kept { (page : ℕ) → IsTrue (contains (pages_of self.old.pages.items) page) → IsTrue (contains (pages_of self.new.pages.items) page) }
+        ensures pages { OnOk result (pages_of self.new.pages.items
+            ≡ pages_from first (end - first) (pages_of self.old.pages.items)) }
+        ensures kept { (page : ℕ) → IsTrue (contains (pages_of self.old.pages.items) page)
+            → IsTrue (contains (pages_of self.new.pages.items) page) }
     {
         for number in first..end {
             self.take(number)?;
@@ -182,7 +184,8 @@ impl Pages {
         requires within { offset + bytes ≤ 256 }
         ensures bytes { (number space : ℕ) → place_of (numbers_of self.old.pages.items) number ≡ Some place
             → 256 * number + offset + bytes ≤ space
-            → bytes_of self.new.pages.items ≡ stored space (256 * number + offset) bytes value (bytes_of self.old.pages.items) }
+            → bytes_of self.new.pages.items
+            ≡ stored space (256 * number + offset) bytes value (bytes_of self.old.pages.items) }
         ensures numbers { numbers_of self.new.pages.items ≡ numbers_of self.old.pages.items }
     {
         self.pages[place].write(offset, bytes, value)

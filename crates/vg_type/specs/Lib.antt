@@ -4,9 +4,11 @@ pub mod Judged
 pub mod Expression
 pub mod Scope
 pub mod Fields
-pub mod Setting
 pub mod Found
 pub mod Calls
 pub mod Faults
 pub mod Statement
 pub mod Item
+pub mod Setting
+pub mod Machine
+pub mod FirstPlaces

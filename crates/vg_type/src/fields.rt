@@ -29,7 +29,7 @@ fn distance(high: Worth, low: Worth) -> Option<u128>
 }
 
 /// The low bit of a range with this high one.
-fn low_of(high: Worth, low: &Option<Boxed<Expr>>, context: &Context) -> Worth
+pub fn low_of(high: Worth, low: &Option<Boxed<Expr>>, context: &Context) -> Worth
     ensures { result ≡ low_or (constants_in context.now) high low.now }
 {
     match low {

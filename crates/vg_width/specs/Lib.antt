@@ -1,4 +1,5 @@
 pub mod FieldCover
+pub mod Mask
 pub mod FieldValue
 pub mod AbiRole
 pub mod Limit

@@ -1,16 +1,11 @@
 -- What there is too much of, beside the nodes of behaviours.
-use Rattle.std.specs.Prelude.{ℕ, ◌+◌, Bool, true, false, nat_le, nat_lt, List, [], ◌∷◌, ◌++◌, Option, Some, None, if◌then◌else◌}
+use Rattle.std.specs.Prelude.{ℕ, ◌+◌, ◌≤◌, Bool, true, false, nat_le, nat_lt, List, [], ◌∷◌, ◌++◌, Option, Some, None, if◌then◌else◌}
 use Rattle.vg_ast.specs.declared.item.Item.{Item}
 use Rattle.vg_ast.specs.declared.item.Item.TheVariants as items
 use Rattle.vg_type.specs.Judged.{told}
 use Rattle.vg_type.specs.Scope.{declared_in, width_in}
 use Rattle.vg_type.specs.Item.{Setting}
-
--- how many instructions, formats and resources stand in front
-pub record Counts : Type 0 where
-  pub instructions : ℕ
-  pub formats : ℕ
-  pub resources : ℕ
+use Rattle.vg_width.specs.declared.counts.Counts.{Counts}
 
 abbrev pub none_yet : Counts
 none_yet = record { instructions = 0; formats = 0; resources = 0 }
@@ -60,3 +55,9 @@ excesses_behind setting counts (item ∷ more) = told (is_excess setting counts 
 -- the names of what is too much
 abbrev pub beyond_limits : Setting → List ℕ
 beyond_limits setting = excesses_behind setting none_yet setting.all
+
+-- no count is above its limit, as long as no item is too many
+pub record AreWithin (counts : Counts) : Type 0 where
+  pub instructions : counts.instructions ≤ 512
+  pub formats : counts.formats ≤ 64
+  pub resources : counts.resources ≤ 16

@@ -17,7 +17,15 @@
 #![tactic(auto)]
 
 mod checking;
+mod counts;
+mod field_cover;
 mod laws;
+mod limit;
+mod mask;
+mod number;
+mod span;
 
 pub use checking::check;
+pub use field_cover::first_uncovered;
 pub use laws::one_answer;
+pub use limit::first_beyond;

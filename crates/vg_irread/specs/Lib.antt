@@ -1,0 +1,5 @@
+pub mod Kinds
+pub mod Reading
+pub mod Exact
+pub mod ReadingType
+pub mod ReadingOperand

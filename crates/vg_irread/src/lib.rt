@@ -1,0 +1,4 @@
+//! The reader of textual LLVM IR.
+#![tactic(auto)]
+
+mod laws;
