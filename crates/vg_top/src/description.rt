@@ -3,7 +3,7 @@ ghost use Rattle.vg_tok.specs.Lexing.{Lexes};
 ghost use Rattle.vg_ast.specs.Description.{Reads};
 ghost use Rattle.vg_iss.specs.Kept.{is_memory_free};
 ghost use Rattle.vg_inline.specs.Rules.{IsFolded};
-ghost use Rattle.vg_width.specs.Rules.{breach_in};
+ghost use Rattle.vg_width.specs.Rules.{breach_asked};
 ghost use Rattle.vg_top.specs.Description.{HasTree, IsBuilt, IsUnlike, IsDescription, IsFaultOf};
 ghost use Rattle.vg_top.specs.Reason.{lacking};
 ghost use Rattle.vg_top.specs.Faulting.{IsBuildFault, IsFaultFor};
@@ -67,7 +67,7 @@ fn folded(alloc: Global, tree: Desc) -> Result<Plain, DescriptionFault>
 #[tactic(auto, using(crate::proofs::Described::check_faulty))]
 fn checked(alloc: Global, plain: &Plain) -> Result<(), DescriptionFault>
     requires folded { IsFolded plain.now.description plain.now }
-    ensures kept { IfOk result (λ _. breach_in plain.now.description ≡ None) }
+    ensures kept { IfOk result (λ _. breach_asked plain.now.description ≡ None) }
     ensures fault { IfErr result (λ fault. (bytes : List ℕ) → HasTree bytes plain.now.description → IsFaultOf bytes fault) }
 {
     Ok(check(alloc, plain)?)

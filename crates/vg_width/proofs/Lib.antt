@@ -1,3 +1,5 @@
 pub mod MaskLemmas
 pub mod RangeLemmas
 pub mod FieldLemmas
+pub mod NarrowLemmas
+pub mod Asked

@@ -10,3 +10,4 @@ pub mod Access
 pub mod StageOrder
 pub mod IsaOf
 pub mod Rules
+pub mod Asking

@@ -1,6 +1,6 @@
 -- The rules of types, formats, encodings, behaviours, the binary interface, stages and limits: at which places a
 -- description with everything in place breaks each, and which it breaks first.
-use Rattle.std.specs.Prelude.{◌≡◌, ℕ, List, [], Option, None}
+use Rattle.std.specs.Prelude.{◌≡◌, ℕ, List, [], ◌∷◌, Option, None}
 use Rattle.vg_ast.specs.declared.desc.Desc.{Desc}
 use Rattle.vg_inline.specs.InPlace.{known_of}
 use Rattle.vg_inline.specs.Rules.{breach_of}
@@ -37,10 +37,18 @@ places_of d _ = []
 unfoldable pub breach_in : Desc → Option Breach
 breach_in d = first_breach (places_of d) check_order
 
+-- those of these rules that are asked so far, in their order
+abbrev pub asked_order : List Rule
+asked_order = rules.Width ∷ rules.Range ∷ rules.FieldCover ∷ rules.Limit ∷ []
+
+-- the first of those that is broken, at its first place
+unfoldable pub breach_asked : Desc → Option Breach
+breach_asked d = first_breach (places_of d) asked_order
+
 -- The rule that a description breaks first, at its first place: of those of names, constants and the number of nodes, and
--- of these behind them.
+-- of those asked behind them.
 unfoldable pub first_broken : Desc → Option Breach
-first_broken d = or_later (breach_of d) (breach_in d)
+first_broken d = or_later (breach_of d) (breach_asked d)
 
 -- a description keeps all of them
 abbrev pub KeepsRules : Desc → Type 0

@@ -1,0 +1,79 @@
+-- What a fault of one rule tells of all rules, where those before it are kept.
+use Rattle.std.proofs.Common.{◌≡◌, ℕ, List, [], ◌∷◌, Option, Some, None, IfSome, refl, ap, sym, ◌∙◌}
+use Rattle.vg_ast.specs.declared.desc.Desc.{Desc}
+use Rattle.vg_names.specs.First.{first_of}
+use Rattle.vg_names.proofs.FirstLemmas.{nothing_first}
+use Rattle.vg_rule.specs.declared.breach.Breach.{Breach}
+use Rattle.vg_rule.specs.declared.desc_fault.DescFault.{DescFault}
+use Rattle.vg_rule.specs.declared.rule.Rule.{Rule}
+use Rattle.vg_rule.specs.declared.rule.Rule.TheVariants as rules
+use Rattle.vg_rule.specs.Breach.{first_breach}
+use Rattle.vg_rule.specs.Fault.{told_by, Tells}
+use Rattle.vg_rule.proofs.Asking.{broken_here, kept_here}
+use Rattle.vg_width.specs.Rules.{breach_asked, places_of}
+use Rattle.vg_width.specs.Asking.{IsKept, TellsOf, first_place}
+
+something_first : (places : List ℕ) (at : ℕ) → first_of places ≡ Some at → (more : List ℕ) × (places ≡ at ∷ more)
+something_first [] at e = absurd (cc)
+something_first (n ∷ more) at e = (more, cc)
+
+-- the rules from one on, in their order
+abbrev from_limit : List Rule
+from_limit = rules.Limit ∷ []
+
+abbrev from_cover : List Rule
+from_cover = rules.FieldCover ∷ from_limit
+
+abbrev from_range : List Rule
+from_range = rules.Range ∷ from_cover
+
+abbrev from_width : List Rule
+from_width = rules.Width ∷ from_range
+
+module _ (d : Desc) where
+  -- a rule with a first place is broken first where it is asked
+  here : (rule : Rule) (others : List Rule) (n : ℕ) → first_place d rule ≡ Some n → first_breach (places_of d) (rule ∷ others) ≡ Some (record { rule = rule; at = n })
+  here rule others n e = let some = something_first (places_of d rule) n e in broken_here (places_of d) rule others n some.0 some.1
+
+  -- and one without leaves the others
+  past : (rule : Rule) (others : List Rule) → IsKept d rule → first_breach (places_of d) (rule ∷ others) ≡ first_breach (places_of d) others
+  past rule others e = kept_here (places_of d) rule others (nothing_first (places_of d rule) e)
+
+  asked_by : (rule : Rule) (others : List Rule) (told : Option Breach) → IfSome told (λ b. (b.rule ≡ rule) × (first_place d rule ≡ Some b.at))
+      → breach_asked d ≡ first_breach (places_of d) (rule ∷ others) → IfSome told (λ b. breach_asked d ≡ Some b)
+  asked_by rule others None h is = h
+  asked_by rule others (Some b) h is = is ∙ here rule others b.at h.1 ∙ ap (λ (r : Rule). Some (record { rule = r; at = b.at })) (sym h.0)
+
+  asked : (rule : Rule) (others : List Rule) (f : DescFault) → TellsOf d rule f → breach_asked d ≡ first_breach (places_of d) (rule ∷ others) → Tells (breach_asked d) f
+  asked rule others f h is = asked_by rule others (told_by f) h is
+
+  from_all : breach_asked d ≡ first_breach (places_of d) from_width
+  unfolding breach_asked
+  from_all = refl
+
+  pub width_told : (f : DescFault) → TellsOf d rules.Width f → Tells (breach_asked d) f
+  width_told f h = asked rules.Width from_range f h from_all
+
+  module _ (width_kept : IsKept d rules.Width) where
+    behind_width : breach_asked d ≡ first_breach (places_of d) from_range
+    behind_width = from_all ∙ past rules.Width from_range width_kept
+
+    pub range_told : (f : DescFault) → TellsOf d rules.Range f → Tells (breach_asked d) f
+    range_told f h = asked rules.Range from_cover f h behind_width
+
+    module _ (range_kept : IsKept d rules.Range) where
+      behind_range : breach_asked d ≡ first_breach (places_of d) from_cover
+      behind_range = behind_width ∙ past rules.Range from_cover range_kept
+
+      pub cover_told : (f : DescFault) → TellsOf d rules.FieldCover f → Tells (breach_asked d) f
+      cover_told f h = asked rules.FieldCover from_limit f h behind_range
+
+      module _ (cover_kept : IsKept d rules.FieldCover) where
+        behind_cover : breach_asked d ≡ first_breach (places_of d) from_limit
+        behind_cover = behind_range ∙ past rules.FieldCover from_limit cover_kept
+
+        pub limit_told : (f : DescFault) → TellsOf d rules.Limit f → Tells (breach_asked d) f
+        limit_told f h = asked rules.Limit [] f h behind_cover
+
+        pub all_kept : IsKept d rules.Limit → breach_asked d ≡ None
+        all_kept h = behind_cover ∙ past rules.Limit [] h
