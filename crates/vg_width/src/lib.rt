@@ -16,6 +16,19 @@
 //! names bit 8 again.
 #![tactic(auto)]
 
+mod act_kind;
+mod earliest;
+mod index_field;
+mod indices;
 mod laws;
+mod stage_act;
+mod stage_lack;
+mod stage_met;
+mod stage_order;
+mod stage_uses;
+mod write_stages;
 
+pub use act_kind::ActKind;
+pub use index_field::first_index_not_field;
 pub use laws::one_answer;
+pub use stage_order::first_stage_break;
