@@ -19,7 +19,8 @@ use Rattle.vg_type.specs.Item.{Setting}
 use Rattle.vg_type.specs.Judged.{told}
 use Rattle.vg_width.specs.declared.act_kind.ActKind.{ActKind}
 use Rattle.vg_width.specs.declared.act_kind.ActKind.TheVariants as kinds
-use Rattle.vg_width.specs.StageLack.{behaviour_lacks, flag_at, is_done_on, lacks_act, setting_in, some_lack}
+use Rattle.vg_type.specs.Setting.{setting_in}
+use Rattle.vg_width.specs.StageLack.{behaviour_lacks, flag_at, is_done_on, lacks_act, some_lack}
 use Rattle.vg_width.specs.StageMet.{does, first_wrong_line, lines_have, placed_at}
 use Rattle.vg_width.specs.StageOrder.{Placed, acts_from, all_reads, all_writes, effect_reads, effect_writes, has_act, in_effect, is_compute, is_read_of, is_resolve, is_resource, is_write_of, is_wrong_count, is_lacking, lacks, stage_breaks, stage_count, wrong_lines}
 use Rattle.vg_width.proofs.StageLemmas.{first_of_wrong_lines}

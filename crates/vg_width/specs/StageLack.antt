@@ -6,20 +6,13 @@ use Rattle.vg_ast.specs.declared.act.Act.TheVariants as acts
 use Rattle.vg_ast.specs.declared.item.Item.{Item}
 use Rattle.vg_ast.specs.declared.micro_item.MicroItem.{MicroItem}
 use Rattle.vg_inline.specs.declared.effect.Effect.{Effect}
-use Rattle.vg_inline.specs.Context.{items_of}
 use Rattle.vg_inline.specs.Inline.{number_or}
 use Rattle.vg_names.specs.Numbers.{number_named}
-use Rattle.vg_inline.specs.declared.context.Context.{Context}
-use Rattle.vg_type.specs.Item.{Setting, setting_by}
-use Rattle.vg_type.specs.Setting.{globals_in}
+use Rattle.vg_type.specs.Item.{Setting}
 use Rattle.vg_width.specs.declared.act_kind.ActKind.{ActKind}
 use Rattle.vg_width.specs.declared.act_kind.ActKind.TheVariants as kinds
 use Rattle.vg_width.specs.StageMet.{lines_have}
 use Rattle.vg_width.specs.StageOrder.{effect_reads, effect_writes, is_resource}
-
--- what the code is given, as a setting
-abbrev pub setting_in : Context → Setting
-setting_in x = setting_by (items_of x) (globals_in x)
 
 -- the number of the item on which an act of this kind is done
 abbrev pub act_item : List Item → ActKind → Act → Option ℕ

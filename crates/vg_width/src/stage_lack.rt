@@ -7,7 +7,8 @@ ghost use Rattle.vg_inline.specs.Context.{items_of};
 ghost use Rattle.vg_inline.specs.Inline.{number_or};
 ghost use Rattle.vg_names.specs.Numbers.{number_named};
 ghost use Rattle.vg_width.specs.Resource.{memory_number as memory_number_of};
-ghost use Rattle.vg_width.specs.StageLack.{act_item, flag_at, is_done_on, lacks_act, setting_in};
+ghost use Rattle.vg_type.specs.Setting.{setting_in};
+ghost use Rattle.vg_width.specs.StageLack.{act_item, flag_at, is_done_on, lacks_act};
 ghost use Rattle.vg_width.specs.StageMet.{lines_have};
 ghost use Rattle.vg_width.specs.StageOrder.{is_resource as is_resource_of};
 

@@ -6,7 +6,8 @@ ghost use Rattle.vg_inline.specs.InPlace.{behaviour_of, known_of};
 ghost use Rattle.vg_inline.specs.Rules.{IsFolded};
 ghost use Rattle.vg_names.specs.First.{first_of};
 ghost use Rattle.vg_type.specs.Item.{setting_of};
-ghost use Rattle.vg_width.specs.StageLack.{behaviour_lacks as behaviour_lacks_of, setting_in};
+ghost use Rattle.vg_type.specs.Setting.{setting_in};
+ghost use Rattle.vg_width.specs.StageLack.{behaviour_lacks as behaviour_lacks_of};
 ghost use Rattle.vg_width.specs.StageOrder.{acts_from, has_act, is_compute, is_lacking, is_resolve, is_wrong_count, stage_breaks, stage_count as stage_count_of};
 
 use crate::ActKind;

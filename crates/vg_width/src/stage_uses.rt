@@ -1,7 +1,8 @@
 //! Whether what a behaviour reads and writes lacks an act.
 ghost use Rattle.std.specs.Prelude.{◌≡◌, [], ◌∷◌, flat_map};
 ghost use Rattle.std.specs.Option.{option_map};
-ghost use Rattle.vg_width.specs.StageLack.{behaviour_lacks as behaviour_lacks_of, setting_in, some_lack};
+ghost use Rattle.vg_type.specs.Setting.{setting_in};
+ghost use Rattle.vg_width.specs.StageLack.{behaviour_lacks as behaviour_lacks_of, some_lack};
 ghost use Rattle.vg_width.specs.StageOrder.{effect_reads, effect_writes, else_numbers, head_reads, tree_reads};
 ghost use Rattle.vg_width.specs.Written.{target_number};
 

@@ -2,7 +2,8 @@
 use Rattle.std.proofs.Common.{◌||◌, ◌+◌, ap, drop, sym, ◌∙◌}
 use Rattle.std.specs.List.{list_any}
 use Rattle.vg_inline.specs.InPlace.{behaviour_of, known_of}
-use Rattle.vg_width.specs.StageLack.{behaviour_lacks, setting_in}
+use Rattle.vg_type.specs.Setting.{setting_in}
+use Rattle.vg_width.specs.StageLack.{behaviour_lacks}
 use Rattle.vg_width.proofs.StageWhole.{passes_from}
 use Rattle.vg_width.proofs.stage_order.instructions_lack.Goals as goal
 

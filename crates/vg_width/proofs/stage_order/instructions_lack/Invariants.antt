@@ -2,7 +2,8 @@ use Rattle.std.proofs.Common.{◌≡◌, drop}
 use Rattle.std.specs.List.{list_any}
 use Rattle.vg_ast.specs.declared.item.Item.{Item}
 use Rattle.vg_inline.specs.InPlace.{behaviour_of, known_of}
-use Rattle.vg_width.specs.StageLack.{behaviour_lacks, setting_in}
+use Rattle.vg_type.specs.Setting.{setting_in}
+use Rattle.vg_width.specs.StageLack.{behaviour_lacks}
 use Rattle.vg_width.proofs.stage_order.instructions_lack.Given as goal
 
 abbrev pub invariant-loop-number : goal.invariant-loop-number

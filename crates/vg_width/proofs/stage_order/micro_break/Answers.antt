@@ -3,7 +3,7 @@ use Rattle.std.proofs.Common.{◌≡◌, [], Some, None, if◌then◌else◌, ap
 use Rattle.vg_inline.specs.Context.{items_of}
 use Rattle.vg_inline.specs.InPlace.{known_of}
 use Rattle.vg_type.specs.Item.{setting_of}
-use Rattle.vg_width.specs.StageLack.{setting_in}
+use Rattle.vg_type.specs.Setting.{setting_in}
 use Rattle.vg_width.specs.StageMet.{first_wrong_line}
 use Rattle.vg_width.specs.StageOrder.{acts_from}
 use Rattle.vg_width.proofs.StageWhole.{break_within, break_behind}

@@ -1,5 +1,6 @@
 use Rattle.std.proofs.Common.{◌≡◌, flat_map, drop}
-use Rattle.vg_width.specs.StageLack.{setting_in, some_lack}
+use Rattle.vg_type.specs.Setting.{setting_in}
+use Rattle.vg_width.specs.StageLack.{some_lack}
 use Rattle.vg_width.specs.StageOrder.{effect_reads}
 use Rattle.vg_width.proofs.stage_uses.+reads.Given as goal
 
