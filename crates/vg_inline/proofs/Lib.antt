@@ -12,6 +12,8 @@ mod Within
 mod StatePicture
 mod EffectWithin
 mod Greatest
+mod Below
 pub mod WholeBehaviours
 pub mod Few
 pub mod Making
+mod Lacking

@@ -184,7 +184,7 @@ module _ (X Y : Type 0) (m : Making X) (n : Making Y) (h : X → Y) (is : IsPict
       ap (λ (t : Y). (text, (let v : Value Y = typed t in v)) ∷ field_values n (k + 1) more) (sym (is.nodes (heads.Field k) []))
       ∙ ap (λ (l : Inner (Value Y)). (text, pictured (typed (m.node (heads.Field k) []))) ∷ l) (fields (k + 1) more)
 
-  body : (all : List Item) (c : Constants) (a : Aliases) (F : Text → X) (item : Option Item) → body_step n all c a (λ text. h (F text)) item ≡ h (body_step m all c a F item)
+  pub body : (all : List Item) (c : Constants) (a : Aliases) (F : Text → X) (item : Option Item) → body_step n all c a (λ text. h (F text)) item ≡ h (body_step m all c a F item)
   body all c a F (Some (items.Function p name ps result e)) =
       ap (λ (inner : Inner (Value Y)). constant_or n (declared_type c a result) (inlined n all (with_bodies c a (λ text. h (F text))) e inner).worth (inlined n all (with_bodies c a (λ text. h (F text))) e inner).tree) (parameters 0 ps)
       ∙ ap (λ (v : Value Y). constant_or n (declared_type c a result) v.worth v.tree) (pictured_expression all (with_bodies c a F) e (parameter_values m 0 ps))

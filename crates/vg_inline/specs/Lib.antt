@@ -9,4 +9,5 @@ pub mod Context
 pub mod InPlace
 pub mod KeptBehaviour
 pub mod Bodies
+pub mod Scheduled
 pub mod Rules

@@ -1,23 +1,26 @@
 //! What the instructions of a folded description do, made one at a time.
-ghost use Rattle.std.specs.Prelude.{◌≡◌, [], ◌<◌, Some, length, slice_get, IfOk};
+ghost use Rattle.std.specs.Prelude.{◌≡◌, [], ◌<◌, Some, length, slice_get, IfOk, IfSome, true};
+ghost use Rattle.std.specs.List.{list_all};
 ghost use Rattle.std.specs.Option.{option_map};
 ghost use Rattle.vg_names.specs.Cyclic.{IsOrder};
 ghost use Rattle.vg_names.specs.Duplicate.{duplicates};
 ghost use Rattle.vg_whole.specs.Worths.{constants_by, constants_of};
 ghost use Rattle.vg_inline.specs.Bodies.{AreBodies, trees_up_to as trees_up_to_of};
-ghost use Rattle.vg_inline.specs.Context.{aliases_by, bodies_by};
+ghost use Rattle.vg_inline.specs.Context.{aliases_by, bodies_by, items_of, known_in};
 ghost use Rattle.vg_inline.specs.Inline.{bodies_of};
 ghost use Rattle.vg_inline.specs.InPlace.{behaviour_of, excesses, known_of};
 ghost use Rattle.vg_inline.specs.Kept.{counts as counts_of, keeping};
+ghost use Rattle.vg_inline.specs.KeptBehaviour.{item_fits};
 ghost use Rattle.vg_inline.specs.Rules.{IsFolded};
 ghost use Rattle.vg_inline.specs.Types.{aliases_of};
 
-use crate::bodies::bodies_kept;
+use crate::bodies::{bodies_by_schedule, bodies_kept};
 use crate::context::Context;
-use crate::instructions::{behaviour_in, greatest};
+use crate::instructions::{behaviour_in, first_excess, greatest};
 use crate::keep::{Keep, counts};
 use crate::kept::Kept;
 use crate::plain::Plain;
+use crate::schedule::schedule;
 use crate::{Declared, Effect};
 use sqlite_items::Items;
 use std::alloc::{AllocError, Global};
@@ -43,6 +46,97 @@ fn trees_up_to(most: usize) -> Keep
     }
 }
 
+/// Above so many nodes bodies aren't kept as trees all at once.
+const MANY_NODES: usize = 262_144;
+
+/// Whether the bodies of up to so many nodes have many together.
+fn are_many(bodies: &[Option<Kept>], most: usize) -> bool {
+    let mut nodes: usize = 0;
+    for body in bodies {
+        if let Some(body) = body {
+            if body.nodes <= most {
+                nodes = nodes.saturating_add(body.nodes);
+            }
+        }
+    }
+    nodes > MANY_NODES
+}
+
+/// All bodies of the functions, of those of up to so many nodes.
+fn all_bodies(
+    alloc: Global,
+    description: &Desc,
+    order: &[usize],
+    context: &Context,
+    most: usize,
+) -> Result<Bodies, AllocError>
+    requires table { context.now.table.now.items.now ≡ description.now.items }
+    requires distinct { duplicates description.now ≡ [] }
+    requires order { IsOrder description.now.items order.now }
+    requires keep { context.now.keep ≡ counts_of }
+    requires constants { let all = description.now.items in constants_by all context.now.worths.now ≡ constants_of all }
+    requires aliases { let all = description.now.items in aliases_by all context.now.aliases.now ≡ aliases_of all (constants_of all) }
+    requires bodies { let all = description.now.items in bodies_by all context.now.bodies.now ≡ bodies_of keeping all (constants_of all) (aliases_of all (constants_of all)) }
+    requires few { excesses description.now.items ≡ [] }
+    requires most { let x = context.now in list_all (item_fits x.keep (items_of x) (known_in x) most) (items_of x) ≡ true }
+    ensures { IfOk result (λ bodies. AreBodies description.now.items bodies) }
+{
+    let keep = trees_up_to(most);
+    let trees = bodies_kept(
+        alloc,
+        description,
+        context.table,
+        order,
+        context.worths,
+        context.aliases,
+        keep,
+    )?;
+    Ok(Bodies { trees, keep })
+}
+
+/// The bodies of the functions that instructions use, where all are there that one uses.
+fn bodies_used(
+    alloc: Global,
+    description: &Desc,
+    order: &[usize],
+    context: &Context,
+    most: usize,
+) -> Result<Option<Bodies>, AllocError>
+    requires table { context.now.table.now.items.now ≡ description.now.items }
+    requires distinct { duplicates description.now ≡ [] }
+    requires order { IsOrder description.now.items order.now }
+    requires keep { context.now.keep ≡ counts_of }
+    requires constants { let all = description.now.items in constants_by all context.now.worths.now ≡ constants_of all }
+    requires aliases { let all = description.now.items in aliases_by all context.now.aliases.now ≡ aliases_of all (constants_of all) }
+    requires bodies { let all = description.now.items in bodies_by all context.now.bodies.now ≡ bodies_of keeping all (constants_of all) (aliases_of all (constants_of all)) }
+    requires few { excesses description.now.items ≡ [] }
+    requires most { let x = context.now in list_all (item_fits x.keep (items_of x) (known_in x) most) (items_of x) ≡ true }
+    ensures { IfOk result (λ found. IfSome found (λ bodies. AreBodies description.now.items bodies)) }
+{
+    let keep = trees_up_to(most);
+    let actions = schedule(alloc, context.table, order)?;
+    let trees = bodies_by_schedule(
+        alloc,
+        actions.as_slice(),
+        context.table,
+        context.worths,
+        context.aliases,
+        keep,
+    )?;
+    let made = Context {
+        table: context.table,
+        worths: context.worths,
+        aliases: context.aliases,
+        bodies: trees.as_slice(),
+        keep,
+        parameters: &[],
+    };
+    match first_excess(alloc, &made)? {
+        None => Ok(Some(Bodies { trees, keep })),
+        Some(_) => Ok(None),
+    }
+}
+
 /// The bodies of the functions, where it is known how many nodes each has.
 fn bodies_counted(
     alloc: Global,
@@ -61,17 +155,12 @@ fn bodies_counted(
     ensures { IfOk result (λ bodies. AreBodies description.now.items bodies) }
 {
     let most = greatest(alloc, context)?;
-    let keep = trees_up_to(most);
-    let trees = bodies_kept(
-        alloc,
-        description,
-        context.table,
-        order,
-        context.worths,
-        context.aliases,
-        keep,
-    )?;
-    Ok(Bodies { trees, keep })
+    if are_many(context.bodies, most) {
+        if let Some(bodies) = bodies_used(alloc, description, order, context, most)? {
+            return Ok(bodies);
+        }
+    }
+    all_bodies(alloc, description, order, context, most)
 }
 
 /// Makes the bodies of the functions of a folded description.

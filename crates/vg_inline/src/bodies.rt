@@ -1,13 +1,15 @@
 //! The bodies of functions with everything but their parameters in place, worked out one behind the other.
-ghost use Rattle.std.specs.Prelude.{◌≡◌, [], Some, IfOk, length, replicate};
+ghost use Rattle.std.specs.Prelude.{◌≡◌, [], Some, None, IfOk, OnOk, length, replicate};
 ghost use Rattle.vg_names.specs.Duplicate.{duplicates};
 ghost use Rattle.vg_names.specs.Cyclic.{IsOrder};
 ghost use Rattle.vg_whole.specs.Worths.{constants_by};
 ghost use Rattle.vg_inline.specs.Context.{aliases_by, bodies_as, bodies_by};
 ghost use Rattle.vg_inline.specs.Inline.{bodies_of, body_step};
 ghost use Rattle.vg_inline.specs.Kept.{keeping, keeping_as, kept_missing};
+ghost use Rattle.vg_inline.specs.Scheduled.{AreWorked, SomeBodies};
 
 use crate::Declared;
+use crate::action::Action;
 use crate::context::Context;
 use crate::inlining::{constant_or, inline};
 use crate::keep::{Keep, counts};
@@ -15,7 +17,7 @@ use crate::keeping::missing;
 use crate::kept::Kept;
 use crate::names::Names;
 use crate::whole::declared_type;
-use sqlite_items::Items;
+use sqlite_items::{Items, at as item_at};
 use std::alloc::{AllocError, Global};
 use vg_ast::{Desc, Item};
 use vg_names::Table;
@@ -56,6 +58,17 @@ fn body_of_item(
     }
 }
 
+/// Every body is lacking.
+fn lacking(alloc: Global, items: &[Item]) -> Result<Items<Option<Kept>>, AllocError>
+    ensures { IfOk result (λ bodies. bodies ≡ replicate (length items.now) None) }
+{
+    let mut bodies = Items::new(alloc);
+    for _ in items {
+        bodies.push(None)?;
+    }
+    Ok(bodies)
+}
+
 fn no_bodies(alloc: Global, items: &[Item], keep: Keep) -> Result<Items<Option<Kept>>, AllocError>
     ensures { IfOk result (λ bodies. bodies ≡ replicate (length items.now) (kept_missing keep)) }
 {
@@ -93,6 +106,65 @@ pub(crate) fn bodies_kept(
             keep,
         )?;
         bodies.set(*number, body);
+    }
+    Ok(bodies)
+}
+
+/// Makes the body of a function, or drops it.
+fn act(
+    alloc: Global,
+    action: Action,
+    table: &Table,
+    worths: &[Worth],
+    aliases: &[Declared],
+    bodies: &mut Items<Option<Kept>>,
+    keep: Keep,
+) -> Result<(), AllocError>
+    requires worked { let all = table.now.items.now in AreWorked keep all (constants_by all worths.now) (aliases_by all aliases.now) }
+    requires some { let all = table.now.items.now in SomeBodies keep all (constants_by all worths.now) (aliases_by all aliases.now) bodies.old }
+    ensures { let all = table.now.items.now in OnOk result (SomeBodies keep all (constants_by all worths.now) (aliases_by all aliases.now) bodies.new) }
+{
+    match action {
+        Action::Make(number) => match item_at(table.items, number) {
+            None => Ok(()),
+            Some(item) => {
+                let body = body_of_item(
+                    alloc,
+                    item,
+                    table,
+                    worths,
+                    aliases,
+                    bodies.as_slice(),
+                    keep,
+                )?;
+                bodies.set(number, body);
+                Ok(())
+            }
+        },
+        Action::Release(number) => {
+            if number < bodies.len() {
+                bodies.set(number, None);
+            }
+            Ok(())
+        }
+    }
+}
+
+/// The bodies of the functions that a schedule makes and doesn't drop.
+pub(crate) fn bodies_by_schedule(
+    alloc: Global,
+    actions: &[Action],
+    table: &Table,
+    worths: &[Worth],
+    aliases: &[Declared],
+    keep: Keep,
+) -> Result<Items<Option<Kept>>, AllocError>
+    requires worked { let all = table.now.items.now in AreWorked keep all (constants_by all worths.now) (aliases_by all aliases.now) }
+    ensures { let all = table.now.items.now in IfOk result (λ bodies. SomeBodies keep all (constants_by all worths.now) (aliases_by all aliases.now) bodies) }
+{
+    let mut bodies = lacking(alloc, table.items)?;
+    for action in actions {
+        act(alloc, *action, table, worths, aliases, &mut bodies, keep)?;
     }
     Ok(bodies)
 }

@@ -28,11 +28,13 @@
 //! With `function twice(a : Bits<8>) -> Bits<8> = a + a`, in place of `twice(X(1))` stands `X(1) + X(1)`, of five nodes.
 #![tactic(auto)]
 
+mod action;
 mod aliases;
 mod behaviours;
 mod bindings;
 mod bodies;
 mod calling;
+mod calls;
 mod context;
 mod copying;
 mod declared;
@@ -49,6 +51,7 @@ mod names;
 mod number;
 mod parameter;
 mod plain;
+mod schedule;
 mod stating;
 mod tree;
 mod value;

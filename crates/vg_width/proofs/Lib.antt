@@ -3,3 +3,13 @@ pub mod RangeLemmas
 pub mod FieldLemmas
 pub mod NarrowLemmas
 pub mod Asked
+pub mod TreeParts
+pub mod StageLemmas
+pub mod StageFirst
+pub mod StageKeys
+pub mod ClearLemmas
+pub mod StageUses
+pub mod StageWhole
+pub mod EarliestLemmas
+pub mod IndexLemmas
+pub mod IndexWhole

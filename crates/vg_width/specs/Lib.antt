@@ -8,6 +8,10 @@ pub mod Made
 pub mod Written
 pub mod Access
 pub mod StageOrder
+pub mod StageMet
+pub mod Earliest
+pub mod IndexFound
+pub mod StageLack
 pub mod IsaOf
 pub mod Rules
 pub mod Asking

@@ -16,16 +16,29 @@
 //! names bit 8 again.
 #![tactic(auto)]
 
+mod act_kind;
 mod checking;
 mod counts;
+mod earliest;
 mod field_cover;
+mod index_field;
+mod indices;
 mod laws;
 mod limit;
 mod mask;
 mod number;
 mod span;
+mod stage_act;
+mod stage_lack;
+mod stage_met;
+mod stage_order;
+mod stage_uses;
+mod write_stages;
 
+pub use act_kind::ActKind;
 pub use checking::check;
 pub use field_cover::first_uncovered;
+pub use index_field::first_index_not_field;
 pub use laws::one_answer;
 pub use limit::first_beyond;
+pub use stage_order::first_stage_break;

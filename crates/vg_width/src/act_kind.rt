@@ -1,0 +1,9 @@
+/// What an act of a stage does, or a `forward`.
+#[derive(Clone, Copy, Debug, PartialEq, Eq, Hash)]
+pub enum ActKind {
+    Read,
+    Write,
+    Compute,
+    Resolve,
+    Forward,
+}
