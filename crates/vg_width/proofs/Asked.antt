@@ -21,8 +21,14 @@ something_first (n ∷ more) at e = (more, cc)
 abbrev from_limit : List Rule
 from_limit = rules.Limit ∷ []
 
+abbrev from_stage : List Rule
+from_stage = rules.StageOrder ∷ from_limit
+
+abbrev from_index : List Rule
+from_index = rules.IndexNotField ∷ from_stage
+
 abbrev from_cover : List Rule
-from_cover = rules.FieldCover ∷ from_limit
+from_cover = rules.FieldCover ∷ from_index
 
 abbrev from_range : List Rule
 from_range = rules.Range ∷ from_cover
@@ -66,14 +72,28 @@ module _ (d : Desc) where
       behind_range = behind_width ∙ past rules.Range from_cover range_kept
 
       pub cover_told : (f : DescFault) → TellsOf d rules.FieldCover f → Tells (breach_asked d) f
-      cover_told f h = asked rules.FieldCover from_limit f h behind_range
+      cover_told f h = asked rules.FieldCover from_index f h behind_range
 
       module _ (cover_kept : IsKept d rules.FieldCover) where
-        behind_cover : breach_asked d ≡ first_breach (places_of d) from_limit
-        behind_cover = behind_range ∙ past rules.FieldCover from_limit cover_kept
+        behind_cover : breach_asked d ≡ first_breach (places_of d) from_index
+        behind_cover = behind_range ∙ past rules.FieldCover from_index cover_kept
 
-        pub limit_told : (f : DescFault) → TellsOf d rules.Limit f → Tells (breach_asked d) f
-        limit_told f h = asked rules.Limit [] f h behind_cover
+        pub index_told : (f : DescFault) → TellsOf d rules.IndexNotField f → Tells (breach_asked d) f
+        index_told f h = asked rules.IndexNotField from_stage f h behind_cover
 
-        pub all_kept : IsKept d rules.Limit → breach_asked d ≡ None
-        all_kept h = behind_cover ∙ past rules.Limit [] h
+        module _ (index_kept : IsKept d rules.IndexNotField) where
+          behind_index : breach_asked d ≡ first_breach (places_of d) from_stage
+          behind_index = behind_cover ∙ past rules.IndexNotField from_stage index_kept
+
+          pub stage_told : (f : DescFault) → TellsOf d rules.StageOrder f → Tells (breach_asked d) f
+          stage_told f h = asked rules.StageOrder from_limit f h behind_index
+
+          module _ (stage_kept : IsKept d rules.StageOrder) where
+            behind_stage : breach_asked d ≡ first_breach (places_of d) from_limit
+            behind_stage = behind_index ∙ past rules.StageOrder from_limit stage_kept
+
+            pub limit_told : (f : DescFault) → TellsOf d rules.Limit f → Tells (breach_asked d) f
+            limit_told f h = asked rules.Limit [] f h behind_stage
+
+            pub all_kept : IsKept d rules.Limit → breach_asked d ≡ None
+            all_kept h = behind_stage ∙ past rules.Limit [] h
