@@ -1,6 +1,6 @@
 /// What an act of a stage does, or a `forward`.
 #[derive(Clone, Copy, Debug, PartialEq, Eq, Hash)]
-pub enum ActKind {
+pub(crate) enum ActKind {
     Read,
     Write,
     Compute,

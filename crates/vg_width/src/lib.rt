@@ -2,9 +2,10 @@
 //!
 //! In goes a description in which all names are known, with everything in place of them; out comes, for each rule, the
 //! list of places at which the description breaks it (`places_of` of `specs/Rules.antt`, in the order of the text),
-//! and the processor that it stands for where it keeps them all (`isa_of`). There is no code yet that asks these
-//! rules: the crate has the definitions, and the law that a description keeps them all or breaks exactly one of them
-//! first ([`one_answer`]).
+//! and the processor that it stands for where it keeps them all (`isa_of`). A law says that a description keeps them all
+//! or breaks exactly one of them first ([`one_answer`]). Asked by code are the rules of indices
+//! ([`first_index_not_field`]) and of stages ([`first_stage_break`]): each answers exactly the first of its places. What
+//! an instruction does is made, asked and dropped before the next is made; acts are met in a hash table.
 //!
 //! The rules of types and ranges are those of vg_type. `FieldCover`, `FieldValue`, `AbiRole`, `StageOrder` and `Limit`
 //! speak of what is written; `Access` of what an instruction does with everything in place: no path writes a resource
@@ -35,7 +36,6 @@ mod stage_order;
 mod stage_uses;
 mod write_stages;
 
-pub use act_kind::ActKind;
 pub use checking::check;
 pub use field_cover::first_uncovered;
 pub use index_field::first_index_not_field;

@@ -4,7 +4,7 @@ ghost use Rattle.std.specs.List.{list_any};
 ghost use Rattle.vg_width.specs.StageMet.{does, key_of, line_acts, lines_have, stage_behind};
 ghost use Rattle.vg_width.specs.StageOrder.{act_start};
 
-use crate::ActKind;
+use crate::act_kind::ActKind;
 use vg_ast::{Act, MicroItem};
 
 /// What an act does, and on which resource.

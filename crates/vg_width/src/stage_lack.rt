@@ -12,7 +12,7 @@ ghost use Rattle.vg_width.specs.StageLack.{act_item, flag_at, is_done_on, lacks_
 ghost use Rattle.vg_width.specs.StageMet.{lines_have};
 ghost use Rattle.vg_width.specs.StageOrder.{is_resource as is_resource_of};
 
-use crate::ActKind;
+use crate::act_kind::ActKind;
 use crate::stage_act::acts_of;
 use sqlite_items::Items;
 use std::alloc::{AllocError, Global};

@@ -6,7 +6,7 @@ ghost use Rattle.vg_width.specs.Resource.{is_memory as is_memory_item};
 ghost use Rattle.vg_width.specs.StageMet.{first_wrong_act, first_wrong_line, is_met, key_of, keys_met, line_keys, placed_at, wrong_act, wrong_forward, wrong_line};
 ghost use Rattle.vg_width.specs.StageOrder.{acts_from};
 
-use crate::ActKind;
+use crate::act_kind::ActKind;
 use crate::stage_act::{behind, key, start};
 use crate::write_stages::{WriteStages, is_late};
 use indexmap::IndexSet;

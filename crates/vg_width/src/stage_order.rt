@@ -10,7 +10,7 @@ ghost use Rattle.vg_type.specs.Setting.{setting_in};
 ghost use Rattle.vg_width.specs.StageLack.{behaviour_lacks as behaviour_lacks_of};
 ghost use Rattle.vg_width.specs.StageOrder.{acts_from, has_act, is_compute, is_lacking, is_resolve, is_wrong_count, stage_breaks, stage_count as stage_count_of};
 
-use crate::ActKind;
+use crate::act_kind::ActKind;
 use crate::stage_act::{behind, lines_do};
 use crate::stage_lack::Lacking;
 use crate::stage_met::first_wrong;

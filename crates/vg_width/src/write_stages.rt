@@ -10,7 +10,7 @@ ghost use Rattle.vg_width.specs.StageMet.{does, first_stage, is_earlier, is_writ
 ghost use Rattle.vg_width.specs.StageOrder.{acts_from, is_too_late};
 ghost use Rattle.vg_width.specs.declared.act_kind.ActKind.TheVariants.{Write};
 
-use crate::ActKind;
+use crate::act_kind::ActKind;
 use crate::stage_act::{acts_of, behind, have};
 use indexmap::IndexMap;
 use std::alloc::{AllocError, Global};
