@@ -11,7 +11,9 @@ use Rattle.vg_ir.specs.declared.instruction.Binary.{Binary}
 use Rattle.vg_ir.specs.declared.instruction.Instruction.{Instruction}
 use Rattle.vg_ir.specs.declared.instruction.Instruction.TheVariants as instructions
 use Rattle.vg_ir.specs.Shape.{integer_width}
+use Rattle.vg_irparse.specs.declared.role.Role.{Role}
 use Rattle.vg_irparse.specs.declared.role.Role.TheVariants as roles
+use Rattle.vg_irparse.specs.declared.role.Wanted.{Wanted}
 use Rattle.vg_irparse.specs.Placed.{Placed, Mark, Slot, plain, operation, lexemes_of}
 use Rattle.vg_irparse.specs.Text.{spot}
 use Rattle.vg_irparse.specs.ReadingType.{wanted}
@@ -27,7 +29,7 @@ use Rattle.vg_irread.specs.Reading.{Reader, done, token_at, ◌>>=◌}
 use Rattle.vg_irread.specs.Exact.{Spelling, front, one, sign, both, nothing, IsExact}
 use Rattle.vg_irread.specs.ReadingOperand.{behind, a_result_name, result_name_at, is_operand_for, an_operand, a_value_type, sign_at, operand_at, value_type_at}
 use Rattle.vg_irread.specs.ReadingInstruction.{entry, operator_at, flags_at, binary_at}
-use Rattle.vg_irread.specs.ExactInstruction.{flags, a_binary, BinaryIsExact}
+use Rattle.vg_irread.specs.ExactInstruction.{flags, an_instruction, is_binary, BinaryIsExact}
 use Rattle.vg_irread.proofs.Single.{token_exact, done_exact}
 use Rattle.vg_irread.proofs.Pairs.{both_exact}
 use Rattle.vg_irread.proofs.Same.{Same, Covers, same_exact}
@@ -57,14 +59,14 @@ entry_takes None d at = refl
 entry_takes (Some x) d at = refl
 
 -- a word of a table
-abbrev pub an_entry : {X : Type 0} → List (List ℕ × X) → X → Spelling Placed (X × ℕ)
-an_entry table d = one operation (λ l. is_some (entry_of table l.text)) (λ l. (unwrap_or (entry_of table l.text) d, l.at))
+abbrev pub an_entry : {X : Type 0} → Role → List (List ℕ × X) → X → Spelling Placed (X × ℕ)
+an_entry role table d = one role (λ l. is_some (entry_of table l.text)) (λ l. (unwrap_or (entry_of table l.text) d, l.at))
 
-pub entry_exact : {X : Type 0} (table : List (List ℕ × X)) (d : X) (text : List ℕ) → is_some (entry_of table text) ≡ true
-    → IsExact (an_entry table d) (words (words_of table) ∷ []) false [] (token_at (entry table) (wanted roles.Operation))
-entry_exact table d text h =
-    token_exact (one_takes operation (λ l. is_some (entry_of table l.text)) (λ l. (unwrap_or (entry_of table l.text) d, l.at)) (words (words_of table) ∷ []) (entry table)
-    (λ l. entry_takes (entry_of table l.text) d l.at) (record { text = text; at = 0; fresh = false }) h (λ l g. in_one _ (entry_kind table l.text g))) (wanted roles.Operation)
+pub entry_exact : {X : Type 0} (role : Role) (w : Wanted) (table : List (List ℕ × X)) (d : X) (text : List ℕ) → is_some (entry_of table text) ≡ true
+    → IsExact (an_entry role table d) (words (words_of table) ∷ []) false [] (token_at (entry table) w)
+entry_exact role w table d text h =
+    token_exact (one_takes role (λ l. is_some (entry_of table l.text)) (λ l. (unwrap_or (entry_of table l.text) d, l.at)) (words (words_of table) ∷ []) (entry table)
+    (λ l. entry_takes (entry_of table l.text) d l.at) (record { text = text; at = 0; fresh = false }) h (λ l g. in_one _ (entry_kind table l.text g))) w
 
 -- ---- all of it
 
@@ -86,7 +88,7 @@ width_of t = integer_width (tree.type_of t)
 
 -- the parts of the text, one behind another
 abbrev parts : Spelling (ResultName × (Placed × (List Placed × (TypeTree × (Placed × (Mark × (Placed × Unit {0}))))))) Instruction
-parts = both a_result_name (λ r. both (an_entry operator_words operators.Add) (λ op. both (flags (operator_flags (operator_of op))) (λ fs. both a_value_type (λ t.
+parts = both a_result_name (λ r. both (an_entry operation operator_words operators.Add) (λ op. both (flags (operator_flags (operator_of op))) (λ fs. both a_value_type (λ t.
     both (an_operand (width_of t)) (λ left. both (sign plain (codes ",")) (λ comma. both (an_operand (width_of t)) (λ right.
     nothing (made (result_of r) (operator_of op, op.at) (tree.type_at t) (tree.operand_of left) (tree.operand_of right)))))))))
 
@@ -94,7 +96,7 @@ parts_exact : IsExact parts (local ∷ []) false [] (result_name_at >>= binary_a
 unfolding binary_at
 parts_exact =
     both_exact result_name_exact (λ r rt rg re.
-    both_exact (entry_exact operator_words operators.Add (codes "add") refl) (λ op ot og oe.
+    both_exact (entry_exact operation (wanted roles.Operation) operator_words operators.Add (codes "add") refl) (λ op ot og oe.
     both_exact (flags_exact_at op.0 (operator_of ot) (ap (λ (z : BinaryOperator × ℕ). z.0) oe)) (λ fs ft fg fe.
     both_exact (value_type_exact (wanted roles.ValueType)) (λ t tt' tg te.
     both_exact (operand_exact_at (integer_width t.ty) (width_of tt') (width_same t (tree.type_at tt') te) (behind roles.Operand)) (λ left lt lg le.
@@ -117,7 +119,7 @@ regroup true true true true true false = refl
 regroup true true true true true true = refl
 
 grammar_same : (r : ResultName) (op : Placed) (fs : List Placed) (t : TypeTree) (left : Placed) (comma : Mark) (right : Placed)
-    → parts.grammar (r, (op, (fs, (t, (left, (comma, (right, tt))))))) ≡ a_binary.grammar (binary r op fs t left comma right)
+    → parts.grammar (r, (op, (fs, (t, (left, (comma, (right, tt))))))) ≡ (an_instruction is_binary).grammar (binary r op fs t left comma right)
 grammar_same r op fs t left comma right =
     let a = is_result_name r in
     let d = is_value_type t in
@@ -126,21 +128,13 @@ grammar_same r op fs t left comma right =
     ∙ (ap (λ z. true && (((a && is_operator op fs) && d) && (z && is_operand_for (width_of t) right.text))) (sym (operand_same t left.text))
     ∙ ap (λ z. true && (((a && is_operator op fs) && d) && (is_operand_at t left.text && z))) (sym (operand_same t right.text))))
 
-back : (u : InstructionTree) → IsTrue (a_binary.grammar u) → Covers a_binary parts u
+back : (u : InstructionTree) → IsTrue ((an_instruction is_binary).grammar u) → Covers (an_instruction is_binary) parts u
 back (binary r op fs t left comma right) g = record {
   other = (r, (op, (fs, (t, (left, (comma, (right, tt)))))));
   is_one = grammar_same r op fs t left comma right ∙ g;
   same = record { spelled = λ ts. refl; means = refl; nests = omega arith };
 }
-back (compare r at samesign predicate t left comma right) g = absurd (cc)
-back (select r at bit condition comma then second_comma otherwise) g = absurd (cc)
-back (cast r op flags from at_to to) g = absurd (cc)
-back (freeze r at from) g = absurd (cc)
-back (alloca r at t n align) g = absurd (cc)
-back (load r at volatile t comma from align) g = absurd (cc)
-back (store at volatile value comma to align) g = absurd (cc)
-back (element_pointer r at flags t comma base indices) g = absurd (cc)
-back (call r tail at convention attributes gives function opening arguments closing function_attributes) g = absurd (cc)
+back _ g = absurd (cc)
 
 pub binary_exact : BinaryIsExact
 binary_exact =

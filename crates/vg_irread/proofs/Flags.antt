@@ -56,7 +56,7 @@ swap_by a b false true h k = let e : bytes_eq a b ≡ true = (bytes_eq-Decides a
 swap : (a b : List ℕ) → bytes_eq a b ≡ bytes_eq b a
 swap a b = swap_by a b (bytes_eq a b) (bytes_eq b a) refl refl
 
-flag_read : (w : List ℕ) (ws : List (List ℕ)) (p : Wanted) (d : ℕ) (ts : List Placed) → (optional_at (one_word w) (sign_at w p) >>= λ _. flags_at ws) d ts ≡ flags_at (w ∷ ws) d ts
+pub flag_read : (w : List ℕ) (ws : List (List ℕ)) (p : Wanted) (d : ℕ) (ts : List Placed) → (optional_at (one_word w) (sign_at w p) >>= λ _. flags_at ws) d ts ≡ flags_at (w ∷ ws) d ts
 flag_read w ws p d [] = refl
 flag_read w ws p d (t ∷ ts) = by_test (bytes_eq t.text w) refl
   where

@@ -13,3 +13,5 @@ pub mod Weaker
 pub mod Flags
 pub mod Layers
 pub mod BinaryExact
+pub mod Known
+pub mod InstructionsExact

@@ -81,18 +81,18 @@ same_bytes a = (bytes_eq-Decides a a).1 refl
 sign_take : List ℕ → Placed → Option ℕ
 sign_take text l = cond (bytes_eq l.text text) (Some l.at) None
 
-sign_takes : (role : Role) (text : List ℕ) → Takes (fixed role text) (λ m. true) (λ m. m.at) (words (text ∷ []) ∷ []) (sign_take text)
+sign_takes : (slot : Mark → Slot) (text : List ℕ) → ((m : Mark) → (slot m).lexeme ≡ marked text m) → Takes slot (λ m. true) (λ m. m.at) (words (text ∷ []) ∷ []) (sign_take text)
 unfolding sign_take
-sign_takes role text = record {
+sign_takes slot text same = record {
   some = no_mark;
   some_is = refl;
   found = λ l x h. by_test l x (bytes_eq l.text text) refl h;
-  given = λ m g. rw (same_bytes text) refl;
-  kind = λ m g. rw (same_bytes text) refl;
+  given = λ m g. rw (same m) (rw (same_bytes text) refl);
+  kind = λ m g. rw (same m) (rw (same_bytes text) refl);
 }
   where
-  by_test : (l : Placed) (x : ℕ) (b : Bool) → bytes_eq l.text text ≡ b → cond b (Some l.at) None ≡ Some x → (m : Mark) × (true ≡ true) × (l ≡ marked text m) × (x ≡ m.at)
-  by_test l x true k h = (mark_of l, refl, marked_is l text (text_is l.text text k), cc)
+  by_test : (l : Placed) (x : ℕ) (b : Bool) → bytes_eq l.text text ≡ b → cond b (Some l.at) None ≡ Some x → (m : Mark) × (true ≡ true) × (l ≡ (slot m).lexeme) × (x ≡ m.at)
+  by_test l x true k h = (mark_of l, refl, marked_is l text (text_is l.text text k) ∙ sym (same (mark_of l)), cc)
   by_test l x false k h = absurd (cc)
 
 fixed_is : (text : List ℕ) (w : Wanted) (d : ℕ) (ts : List Placed) → token_at (sign_take text) w d ts ≡ sign_at text w d ts
@@ -104,9 +104,17 @@ fixed_is text w d (t ∷ ts) = by_test (bytes_eq t.text text)
   by_test true = refl
   by_test false = refl
 
+slot_exact : (slot : Mark → Slot) (text : List ℕ) → ((m : Mark) → (slot m).lexeme ≡ marked text m) → (w : Wanted)
+    → IsExact (single slot (λ m. true) (λ m. m.at)) (words (text ∷ []) ∷ []) false [] (sign_at text w)
+slot_exact slot text same w =
+    subst (IsExact (single slot (λ m. true) (λ m. m.at)) (words (text ∷ []) ∷ []) false []) (fun_ext (λ d. fun_ext (λ ts. fixed_is text w d ts))) (token_exact (sign_takes slot text same) w)
+
 pub sign_exact : (role : Role) (text : List ℕ) (w : Wanted) → IsExact (sign role text) (words (text ∷ []) ∷ []) false [] (sign_at text w)
-sign_exact role text w =
-    subst (IsExact (sign role text) (words (text ∷ []) ∷ []) false []) (fun_ext (λ d. fun_ext (λ ts. fixed_is text w d ts))) (token_exact (sign_takes role text) w)
+sign_exact role text w = slot_exact (fixed role text) text (λ m. refl) w
+
+-- one that ends a type
+pub ending_exact : (role : Role) (text : List ℕ) (w : Wanted) → IsExact (single (λ m. last_of_type role (marked text m)) (λ m. true) (λ m. m.at)) (words (text ∷ []) ∷ []) false [] (sign_at text w)
+ending_exact role text w = slot_exact (λ m. last_of_type role (marked text m)) text (λ m. refl) w
 
 some_same : {A : Type 0} (x y : A) → Some x ≡ Some y → x ≡ y
 some_same x y h = cc

@@ -9,10 +9,11 @@ ghost use Rattle.vg_irparse.specs.Grammar.{is_name_or_word};
 ghost use Rattle.vg_irread.specs.ReadingOperand;
 
 use crate::number::{is_number_of, number_of};
-use crate::place::{spot, wanted};
+use crate::place::{behind, spot, wanted};
+use crate::types::{any_type_at, value_type_at};
 use crate::word::{constant_of, is_constant};
 use std::alloc::{AllocError, Global};
-use vg_ir::{NameAt, Operand, Value};
+use vg_ir::{NameAt, Operand, TypedOperand, Value};
 use vg_irlex::{Lexeme, piece};
 use vg_irparse::{Role, Stop, Wanted, fixed_at, is_global, is_local, is_number, name_of};
 
@@ -126,4 +127,34 @@ pub(crate) fn result_name_at<'a>(
     let (name, rest) = local_at(alloc, wanted(Role::Plain), text, tokens)?;
     let (_, rest) = sign_at(b"=", wanted(Role::Plain), text, rest)?;
     Ok((name, rest))
+}
+
+/// An operand behind a type of any kind.
+pub(crate) fn any_typed_at<'a>(
+    alloc: Global,
+    wanted: Wanted,
+    text: &[u8],
+    tokens: &'a [Lexeme],
+) -> Result<(TypedOperand, &'a [Lexeme]), Stop>
+    ensures { Gives (λ x. (x.0, placed text.now x.1.now)) result (ReadingOperand.any_typed_at wanted most_brackets (placed text.now tokens.now)) }
+{
+    let (ty, rest) = any_type_at(alloc, wanted, text, tokens)?;
+    let width = ty.ty.integer_width();
+    let (operand, rest) = operand_at(alloc, width, behind(Role::Operand), text, rest)?;
+    Ok((TypedOperand { ty, operand }, rest))
+}
+
+/// An operand behind the type of a value.
+pub(crate) fn value_at<'a>(
+    alloc: Global,
+    wanted: Wanted,
+    text: &[u8],
+    tokens: &'a [Lexeme],
+) -> Result<(TypedOperand, &'a [Lexeme]), Stop>
+    ensures { Gives (λ x. (x.0, placed text.now x.1.now)) result (ReadingOperand.value_at wanted most_brackets (placed text.now tokens.now)) }
+{
+    let (ty, rest) = value_type_at(alloc, wanted, text, tokens)?;
+    let width = ty.ty.integer_width();
+    let (operand, rest) = operand_at(alloc, width, behind(Role::Operand), text, rest)?;
+    Ok((TypedOperand { ty, operand }, rest))
 }

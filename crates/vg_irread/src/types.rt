@@ -6,13 +6,14 @@ ghost use Rattle.vg_irparse.specs.Answer.{Gives};
 ghost use Rattle.vg_irparse.specs.Words.{entry_of, integer_words};
 ghost use Rattle.vg_irparse.specs.ReadingType.{most_brackets};
 ghost use Rattle.vg_irread.specs.ReadingOperand;
+ghost use Rattle.vg_irread.specs.ReadingType;
 
 use crate::place::spot;
 use sqlite_items::Items;
 use std::alloc::Global;
 use vg_ir::{Ty, TypeAt};
 use vg_irlex::{Lexeme, piece};
-use vg_irparse::{Stop, Wanted, integer_width};
+use vg_irparse::{Stop, Wanted, integer_width, type_at};
 
 /// How many bits an integer type has.
 fn width_of(text: &[u8]) -> Option<u8>
@@ -60,4 +61,17 @@ pub(crate) fn value_type_at<'a>(
     let at = spot(first.start);
     let leaves = Items::new(alloc);
     Ok((TypeAt { ty, at, leaves }, rest))
+}
+
+/// A type of any kind.
+pub(crate) fn any_type_at<'a>(
+    alloc: Global,
+    wanted: Wanted,
+    text: &[u8],
+    tokens: &'a [Lexeme],
+) -> Result<(TypeAt, &'a [Lexeme]), Stop>
+    ensures value { Gives (λ x. (x.0, placed text.now x.1.now)) result (ReadingType.type_at wanted most_brackets (placed text.now tokens.now)) }
+    ensures width { IfOk result (λ x. ReadingOperand.HasWidth x.0.ty) }
+{
+    type_at(alloc, wanted, text, tokens)
 }

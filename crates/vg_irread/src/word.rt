@@ -2,10 +2,10 @@
 
 ghost use Rattle.std.specs.Prelude.{◌≡◌};
 ghost use Rattle.vg_irparse.specs.Rows.{texts};
-ghost use Rattle.vg_irparse.specs.Words.{entry_of, is_one_of, operator_words, operator_flags, constant_words};
+ghost use Rattle.vg_irparse.specs.Words.{entry_of, is_one_of, operator_words, cast_words, predicate_words, constant_words};
 ghost use Rattle.vg_irparse.specs.Tree.{constant_values};
 
-use vg_ir::{BinaryOperator, Value};
+use vg_ir::{BinaryOperator, CastOperator, Predicate, Value};
 use vg_irparse::{entry_of, is_one_of};
 
 const OPERATORS: [(&[u8], BinaryOperator); 13] = [
@@ -59,4 +59,38 @@ pub(crate) fn is_constant(text: &[u8]) -> bool
     ensures { result ≡ is_one_of constant_words text.now }
 {
     is_one_of(&CONSTANTS, text)
+}
+
+const CASTS: [(&[u8], CastOperator); 6] = [
+    (b"zext", CastOperator::Zext),
+    (b"sext", CastOperator::Sext),
+    (b"trunc", CastOperator::Trunc),
+    (b"ptrtoint", CastOperator::PtrToInt),
+    (b"inttoptr", CastOperator::IntToPtr),
+    (b"bitcast", CastOperator::Bitcast),
+];
+
+pub(crate) fn cast_of(text: &[u8]) -> Option<CastOperator>
+    ensures { result ≡ entry_of cast_words text.now }
+{
+    entry_of(&CASTS, text)
+}
+
+const PREDICATES: [(&[u8], Predicate); 10] = [
+    (b"eq", Predicate::Eq),
+    (b"ne", Predicate::Ne),
+    (b"ugt", Predicate::Ugt),
+    (b"uge", Predicate::Uge),
+    (b"ult", Predicate::Ult),
+    (b"ule", Predicate::Ule),
+    (b"sgt", Predicate::Sgt),
+    (b"sge", Predicate::Sge),
+    (b"slt", Predicate::Slt),
+    (b"sle", Predicate::Sle),
+];
+
+pub(crate) fn predicate_of(text: &[u8]) -> Option<Predicate>
+    ensures { result ≡ entry_of predicate_words text.now }
+{
+    entry_of(&PREDICATES, text)
 }
