@@ -38,9 +38,16 @@ mod taking;
 mod value_type;
 mod written;
 
+pub use declaring::{address_type, type_in};
+pub use fields::field_type;
 pub use judgement::Judgement;
 pub use judging::judged;
+pub use looking::item_sort;
 pub use names::Names;
+pub use operator::{
+    binary_type, bytes_type, cast_type, choice_type, is_shift, join_type, operand_type, slice_type,
+    unary_type,
+};
 pub use setting::Setting;
-pub use sort::Sort;
-pub use value_type::ValueType;
+pub use sort::{Sort, common_type, sort_of_type, whole_or};
+pub use value_type::{ValueType, same_type, type_of, width_of};

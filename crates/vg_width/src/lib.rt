@@ -16,6 +16,33 @@
 //! names bit 8 again.
 #![tactic(auto)]
 
+mod accesses;
+mod casts;
+mod choosing;
+mod constants;
+mod copying;
+mod frame;
+mod guards;
+mod joins;
 mod laws;
+mod leaves;
+mod looking;
+mod made;
+mod making;
+mod operators;
+mod reading;
+mod resource;
+mod resources;
+mod targets;
+mod writing;
+mod written;
 
+pub use frame::Frame;
 pub use laws::one_answer;
+pub use made::Made;
+pub use making::make;
+pub use reading::Reading;
+pub use resource::Resource;
+pub use resources::work_out_resources;
+pub use writing::written_to;
+pub use written::Written;

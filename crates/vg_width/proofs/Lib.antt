@@ -1,0 +1,3 @@
+pub mod TypedLemmas
+mod MadeLemmas
+mod ResourceLemmas
