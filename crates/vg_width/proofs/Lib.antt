@@ -1,3 +1,5 @@
 pub mod TypedLemmas
+pub mod TypedNodes
+pub mod TypedTrees
 mod MadeLemmas
 mod ResourceLemmas

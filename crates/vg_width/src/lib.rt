@@ -38,7 +38,7 @@ mod writing;
 mod written;
 
 pub use frame::Frame;
-pub use laws::one_answer;
+pub use laws::{made_is_typed, one_answer};
 pub use made::Made;
 pub use making::make;
 pub use reading::Reading;
