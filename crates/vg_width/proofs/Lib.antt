@@ -11,3 +11,8 @@ pub mod StageWhole
 pub mod EarliestLemmas
 pub mod IndexLemmas
 pub mod IndexWhole
+pub mod TypedLemmas
+pub mod TypedNodes
+pub mod TypedTrees
+mod MadeLemmas
+mod ResourceLemmas

@@ -4,9 +4,12 @@ pub mod FieldValue
 pub mod AbiRole
 pub mod Limit
 pub mod Resource
+pub mod Fields
 pub mod Made
 pub mod Written
 pub mod Access
+pub mod Frame
+pub mod TypedMade
 pub mod StageOrder
 pub mod StageMet
 pub mod Earliest

@@ -17,26 +17,54 @@
 //! names bit 8 again.
 #![tactic(auto)]
 
+mod accesses;
 mod act_kind;
+mod casts;
+mod choosing;
+mod constants;
+mod copying;
 mod counts;
 mod earliest;
 mod field_cover;
+mod frame;
+mod guards;
 mod index_field;
 mod indices;
+mod joins;
 mod laws;
+mod leaves;
 mod limit;
+mod looking;
+mod made;
+mod making;
 mod mask;
 mod number;
+mod operators;
+mod reading;
+mod resource;
+mod resources;
 mod span;
 mod stage_act;
 mod stage_lack;
 mod stage_met;
 mod stage_order;
 mod stage_uses;
+mod targets;
 mod write_stages;
+mod writing;
+mod written;
 
 pub use field_cover::first_uncovered;
+pub use frame::Frame;
 pub use index_field::first_index_not_field;
 pub use laws::one_answer;
+pub use laws::{made_is_typed, one_answer};
 pub use limit::first_beyond;
+pub use made::Made;
+pub use making::make;
+pub use reading::Reading;
+pub use resource::Resource;
+pub use resources::work_out_resources;
 pub use stage_order::first_stage_break;
+pub use writing::written_to;
+pub use written::Written;
