@@ -8,3 +8,4 @@ pub mod StageWhole
 pub mod EarliestLemmas
 pub mod IndexLemmas
 pub mod IndexWhole
+pub mod SameLemmas

@@ -18,6 +18,7 @@
 #![tactic(auto)]
 
 mod act_kind;
+mod comparing;
 mod earliest;
 mod index_field;
 mod indices;
@@ -30,6 +31,7 @@ mod stage_uses;
 mod write_stages;
 
 use act_kind::ActKind;
+pub use comparing::same_tree;
 pub use index_field::first_index_not_field;
 pub use laws::one_answer;
 pub use stage_order::first_stage_break;
