@@ -16,3 +16,4 @@ pub mod TypedNodes
 pub mod TypedTrees
 mod MadeLemmas
 mod ResourceLemmas
+pub mod SameLemmas

@@ -14,6 +14,7 @@ pub mod StageOrder
 pub mod StageMet
 pub mod Earliest
 pub mod IndexFound
+pub mod SameTree
 pub mod StageLack
 pub mod IsaOf
 pub mod Rules

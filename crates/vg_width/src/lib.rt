@@ -18,9 +18,11 @@
 #![tactic(auto)]
 
 mod accesses;
+mod accesses;
 mod act_kind;
 mod casts;
 mod choosing;
+mod comparing;
 mod constants;
 mod copying;
 mod counts;
@@ -54,10 +56,10 @@ mod write_stages;
 mod writing;
 mod written;
 
+pub use comparing::same_tree;
 pub use field_cover::first_uncovered;
 pub use frame::Frame;
 pub use index_field::first_index_not_field;
-pub use laws::one_answer;
 pub use laws::{made_is_typed, one_answer};
 pub use limit::first_beyond;
 pub use made::Made;
