@@ -18,7 +18,6 @@
 #![tactic(auto)]
 
 mod accesses;
-mod accesses;
 mod act_kind;
 mod casts;
 mod choosing;
