@@ -1,6 +1,7 @@
 -- The rules of the binary interface, put together.
-use Rattle.std.proofs.Common.{◌≡◌, ℕ, ◌+◌, ◌^◌, ◌<◌, Bool, true, false, not, ◌&&◌, ◌||◌, nat_eq, nat_lt, List, [], ◌∷◌, ◌++◌, append_assoc, length, take, drop, get_or, map, flat_map, Option, Some, None, refl, ap, sym, ◌∙◌, arith}
+use Rattle.std.proofs.Common.{◌≡◌, ℕ, ◌+◌, ◌^◌, ◌<◌, ◌≤◌, Bool, true, false, not, ◌&&◌, ◌||◌, nat_eq, nat_lt, List, [], ◌∷◌, ◌++◌, append_assoc, length, take, drop, get_or, map, flat_map, Option, Some, None, refl, ap, sym, ◌∙◌, arith}
 use Rattle.std.specs.List.{list_all, list_any, range_with_len}
+use Rattle.std.proofs.lemmas.Bool.{false_from_ne_true, true≢false}
 use Rattle.std.proofs.lemmas.Bool.Decides.{nat_tests}
 use Rattle.std.proofs.lemmas.List.{take_more}
 use Rattle.vg_ast.specs.declared.register.Register.{Register}
@@ -11,9 +12,10 @@ use Rattle.vg_type.specs.Item.{Setting}
 use Rattle.vg_type.specs.Judged.{told}
 use Rattle.vg_type.specs.Scope.{address_width}
 use Rattle.vg_width.specs.FieldCover.{width_or}
-use Rattle.vg_width.specs.AbiRole.{are_kept, are_of_one_file, broken_roles, is_good, is_rising, layout_of, role_number, role_start, same_file, code_base, data_base, stack_ends}
+use Rattle.vg_width.specs.AbiRole.{are_complete, are_kept, are_of_one_file, broken_roles, is_good, is_rising, layout_of, role_number, role_start, same_file, code_base, data_base, stack_ends}
 use Rattle.vg_width.specs.AbiPart.{are_below, bases_of}
 use Rattle.vg_width.specs.Registers.{first_register, is_right}
+use Rattle.vg_width.proofs.MaskLemmas.{all_below, each_below}
 use Rattle.vg_width.proofs.RangeLemmas.{rest_is}
 
 -- ---- registers
@@ -51,6 +53,15 @@ stands_as n [] = refl
 stands_as n (role ∷ more) =
     ap (λ t. t || list_any (nat_eq n) (map role_number more)) (eq_sym n (role_number role)) ∙ ap (λ t. nat_eq (role_number role) n || t) (stands_as n more)
 
+-- a role of this number is lacking
+pub lacking : (roles : List Role) (n : ℕ) → n < 9 → list_any (nat_eq n) (map role_number roles) ≡ false → false ≡ are_complete roles
+lacking roles n h e =
+    let test = λ (k : ℕ). list_any (λ (role : Role). nat_eq (role_number role) k) roles in
+    sym (false_from_ne_true (are_complete roles) (λ all. true≢false (sym (each_below test 9 n all h) ∙ sym (stands_as n roles) ∙ e)))
+
+pub none_lacking : (roles : List Role) (n : ℕ) → 9 ≤ n → ((k : ℕ) → k < n → list_any (λ (role : Role). nat_eq (role_number role) k) roles ≡ true) → true ≡ are_complete roles
+none_lacking roles n h all = sym (all_below (λ (k : ℕ). list_any (λ (role : Role). nat_eq (role_number role) k) roles) 9 (λ k l. all k (omega arith)))
+
 -- ---- the layout of memory
 
 -- one more number behind those that rise
@@ -81,12 +92,7 @@ rising_pushed (m ∷ more) n =
 
 -- the layout is that of the bases and the end of memory
 pub layout_is : (setting : Setting) (front : List Role) → layout_of setting front ≡ bases_of setting front ++ 2 ^ width_or (address_width setting.all setting.globals) ∷ []
-layout_is setting front =
-    let end = 2 ^ width_or (address_width setting.all setting.globals) ∷ [] in
-    let code = flat_map (code_base setting) front in
-    let data = flat_map (data_base setting) front in
-    let stack = flat_map (stack_ends setting) front in
-    ap (λ (ns : List ℕ). code ++ ns) (sym (append_assoc data stack end)) ∙ sym (append_assoc code (data ++ stack) end)
+layout_is setting front = refl
 
 pub laid_out : (setting : Setting) (front : List Role) → (is_rising (bases_of setting front) && are_below (width_or (address_width setting.all setting.globals)) (bases_of setting front)) ≡ is_rising (layout_of setting front)
 laid_out setting front = sym (ap is_rising (layout_is setting front) ∙ rising_pushed (bases_of setting front) (2 ^ width_or (address_width setting.all setting.globals)))
@@ -140,3 +146,7 @@ module _ (setting : Setting) (roles : List Role) (i : ℕ) (role : Role) (within
 
   pub role_kept : are_kept setting (take (i + 1) roles) ≡ true → first_of (broken_roles setting [] roles) ≡ first_of (broken_roles setting (take (i + 1) roles) (drop (i + 1) roles))
   role_kept e = on ∙ ap (λ t. first_of (told (not t) (role_start role) ++ broken_roles setting (take (i + 1) roles) (drop (i + 1) roles))) e
+
+pub ruleset kept_steps = (plainly_broken, not_laid_out, kept_where_they_differ)
+
+pub ruleset role_steps = (role_broken, role_kept)

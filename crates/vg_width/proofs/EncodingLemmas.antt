@@ -1,31 +1,18 @@
 -- The fields that an encoding names, one behind the other.
 use Rattle.std.proofs.Common.{◌≡◌, ℕ, Bool, true, false, not, ◌||◌, List, [], ◌∷◌, ◌++◌, map, Option, Some, None, refl, ap, sym, ◌∙◌, if◌then◌else◌}
-use Rattle.std.specs.Prelude.{slice_get}
 use Rattle.std.specs.Borrow.{Bor}
 use Rattle.std.specs.List.{list_any}
 use Rattle.std.specs.Str.{bytes_eq}
 use Rattle.vg_ast.specs.declared.fix.Fix.{Fix}
-use Rattle.vg_ast.specs.declared.item.Item.{Item}
-use Rattle.vg_names.specs.Definition.{Text, is_among, item_named}
+use Rattle.vg_names.specs.Definition.{Text, is_among}
 use Rattle.vg_names.specs.First.{first_of}
-use Rattle.vg_names.specs.Table.{number_from}
-use Rattle.vg_names.proofs.InnerLemmas.{numbered_item, unnumbered_item}
 use Rattle.vg_names.proofs.TableLemmas.{bytes_eq_sym}
 use Rattle.vg_names.proofs.Texts.{among_append}
-use Rattle.vg_whole.specs.Whole.{Constants, Inner, inner_of, whole_of}
+use Rattle.vg_whole.specs.Whole.{Inner, inner_of, whole_of}
 use Rattle.vg_type.specs.declared.sort.Sort.{Sort}
 use Rattle.vg_type.specs.Item.{Setting}
 use Rattle.vg_type.specs.Judged.{told}
-use Rattle.vg_type.specs.Scope.{field_sorts}
 use Rattle.vg_width.specs.FieldValue.{fits_field, is_wrong_fix, wrong_fixes}
-
--- ---- the format
-
-pub format_missing : (constants : Constants) (all : List Item) (text : Text) → None ≡ number_from 0 all text → (let none : Inner Sort = [] in none) ≡ field_sorts constants (item_named all text)
-format_missing constants all text e = ap (field_sorts constants) (unnumbered_item all text e)
-
-pub format_found : (constants : Constants) (all : List Item) (text : Text) (k : ℕ) → Some k ≡ number_from 0 all text → field_sorts constants (slice_get all k) ≡ field_sorts constants (item_named all text)
-format_found constants all text k e = ap (field_sorts constants) (numbered_item all text k e)
 
 -- ---- the names
 

@@ -4,3 +4,4 @@ pub mod FieldLemmas
 pub mod EncodingLemmas
 pub mod DifferLemmas
 pub mod AbiLemmas
+pub mod NarrowLemmas

@@ -73,6 +73,7 @@ fn stand_once(roles: &[Role]) -> bool
 }
 
 /// Whether all nine roles stand there.
+#[tactic(auto, using(crate::proofs::AbiLemmas::lacking, crate::proofs::AbiLemmas::none_lacking))]
 fn are_complete(roles: &[Role]) -> bool
     ensures { result ≡ are_all_there roles.now }
 {
@@ -222,6 +223,7 @@ fn is_rising(numbers: &[u128]) -> bool
 }
 
 /// Whether a number is below 2 to a width.
+#[tactic(auto, using(vg_type::proofs::WidthLemmas::width_steps))]
 fn is_below(number: u128, width: u128) -> bool
     ensures { result ≡ nat_lt number (2 ^ width) }
 {
@@ -242,12 +244,20 @@ fn are_below(numbers: &[u128], width: u128) -> bool
     true
 }
 
+/// Whether numbers rise, and are below 2 to a width.
+fn is_in_order(numbers: &[u128], width: u128) -> bool
+    ensures { result ≡ (rises numbers.now && are_below width numbers.now) }
+{
+    is_rising(numbers) && are_below(numbers, width)
+}
+
 /// Whether the ends of memory that roles name lie in their order.
+#[tactic(auto, using(crate::proofs::AbiLemmas::laid_out))]
 fn is_laid_out(alloc: Global, roles: &[Role], setting: &Setting) -> Result<bool, AllocError>
     ensures { IfOk result (λ laid. laid ≡ rises (layout_of (setting_in setting.now.context.now) roles.now)) }
 {
     let bases = bases_of(alloc, roles, setting)?;
-    Ok(is_rising(&bases) && are_below(&bases, width_or(setting.width)))
+    Ok(is_in_order(&bases, width_or(setting.width)))
 }
 
 /// Whether roles keep the rules for which nothing is kept in mind.
@@ -260,6 +270,7 @@ fn are_plainly_kept(roles: &[Role], setting: &Setting) -> bool
 }
 
 /// Whether roles keep all rules among them.
+#[tactic(auto, using(crate::proofs::AbiLemmas::kept_steps))]
 fn are_kept(alloc: Global, roles: &[Role], setting: &Setting) -> Result<bool, AllocError>
     ensures { IfOk result (λ kept. kept ≡ keep_all (setting_in setting.now.context.now) roles.now) }
 {
@@ -274,6 +285,7 @@ fn are_kept(alloc: Global, roles: &[Role], setting: &Setting) -> Result<bool, Al
 
 /// The first role that, with those in front of it, breaks a rule. Those in front keep the rules, so they are nine at
 /// most, and none is asked more than ten times.
+#[tactic(auto, using(crate::proofs::AbiLemmas::role_steps))]
 fn first_broken(
     alloc: Global,
     roles: &[Role],

@@ -2,11 +2,9 @@
 #![tactic(auto, using(vg_names::proofs::FirstLemmas::first_steps))]
 
 ghost use Rattle.std.specs.Prelude.{◌≡◌, ◌||◌, ◌++◌, ◌∷◌, [], not, true, false, Ok, IfOk};
-ghost use Rattle.std.specs.Option.{option_copied};
 ghost use Rattle.vg_inline.specs.Context.{constants_in, items_of};
 ghost use Rattle.vg_names.specs.Definition.{is_among, item_named};
 ghost use Rattle.vg_names.specs.First.{first_of};
-ghost use Rattle.vg_names.specs.Table.{format_named as format_of_item};
 ghost use Rattle.vg_type.specs.Scope.{field_sorts};
 ghost use Rattle.vg_type.specs.Setting.{setting_in, sorts_of};
 ghost use Rattle.vg_width.specs.FieldValue.{fits_field, format_of, is_wrong_fix, item_values, values, wrong_fixes};
@@ -16,7 +14,7 @@ use indexmap::IndexSet;
 use std::alloc::{AllocError, Global};
 use vg_ast::{Fix, Item, Name};
 use vg_inline::{Context, worth_of};
-use vg_type::{Names, Setting, Sort, find, fits};
+use vg_type::{Names, Setting, Sort, fields_in, find, fits};
 use vg_whole::Worth;
 
 /// Whether a number fits what a field is.
@@ -75,23 +73,12 @@ fn first_wrong(
     Ok(None)
 }
 
-/// The fields of a format of this name.
-#[tactic(auto, using(crate::proofs::EncodingLemmas::format_missing, crate::proofs::EncodingLemmas::format_found))]
-fn fields_of(format: &Name, context: &Context) -> Names<'static>
-    ensures { sorts_of context.now result ≡ field_sorts (constants_in context.now) (item_named (items_of context.now) format.now.text) }
-{
-    match context.table.number(format.text.as_slice()) {
-        None => Names::Nothing,
-        Some(number) => Names::Fields(number),
-    }
-}
-
 /// The fields of the format of an instruction of this name.
-fn fields_encoded(instruction: &Name, context: &Context) -> Names<'static>
-    ensures { sorts_of context.now result ≡ field_sorts (constants_in context.now) (format_of (items_of context.now) (item_named (items_of context.now) instruction.now.text)) }
+fn fields_encoded(instruction: &Name, setting: &Setting) -> Names<'static>
+    ensures { let x = setting.now.context.now in sorts_of x result ≡ field_sorts (constants_in x) (format_of (items_of x) (item_named (items_of x) instruction.now.text)) }
 {
-    match context.table.item(instruction.text.as_slice()) {
-        Some(Item::Instruction { format, .. }) => fields_of(format, context),
+    match setting.context.table.item(instruction.text.as_slice()) {
+        Some(Item::Instruction { format, .. }) => fields_in(format, setting),
         _ => Names::Nothing,
     }
 }
@@ -105,7 +92,7 @@ fn item_unfit(
 {
     match item {
         Item::Encoding { name, fixes, .. } => {
-            let fields = fields_encoded(name, setting.context);
+            let fields = fields_encoded(name, setting);
             first_wrong(alloc, fixes.as_slice(), &fields, setting.context)
         }
         _ => Ok(None),
