@@ -17,3 +17,7 @@ pub mod TypedTrees
 mod MadeLemmas
 mod ResourceLemmas
 pub mod SameLemmas
+pub mod EncodingLemmas
+pub mod DifferLemmas
+pub mod AbiLemmas
+pub mod NarrowLemmas

@@ -17,6 +17,9 @@
 //! names bit 8 again.
 #![tactic(auto)]
 
+mod abi_part;
+mod abi_register;
+mod abi_role;
 mod accesses;
 mod act_kind;
 mod casts;
@@ -27,6 +30,7 @@ mod copying;
 mod counts;
 mod earliest;
 mod field_cover;
+mod field_value;
 mod frame;
 mod guards;
 mod index_field;
@@ -55,8 +59,10 @@ mod write_stages;
 mod writing;
 mod written;
 
+pub use abi_role::first_abi_break;
 pub use comparing::same_tree;
 pub use field_cover::first_uncovered;
+pub use field_value::first_unfit;
 pub use frame::Frame;
 pub use index_field::first_index_not_field;
 pub use laws::{made_is_typed, one_answer};
