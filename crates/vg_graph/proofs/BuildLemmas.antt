@@ -266,7 +266,7 @@ Extends-trans f g h one two = record {
 -- ---- widths
 
 -- each of these trees is typed
-pub AllTyped : Parts → List Expr → Type 0
+unfoldable pub AllTyped : Parts → List Expr → Type 0
 AllTyped d [] = Unit {0}
 AllTyped d (e ∷ es) = IsTrue (is_typed d e) × AllTyped d es
 

@@ -4,5 +4,14 @@ pub mod Pairs
 pub mod Optional
 pub mod Many
 pub mod Same
-pub mod Types
-pub mod Operands
+pub mod TypesExact
+pub mod OperandsExact
+pub mod Steps
+pub mod Fitting
+pub mod Widths
+pub mod Weaker
+pub mod Flags
+pub mod Layers
+pub mod BinaryExact
+pub mod Known
+pub mod InstructionsExact

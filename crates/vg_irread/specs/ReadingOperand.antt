@@ -1,5 +1,5 @@
 -- Reading names, signs, operands and the types of values.
-use Rattle.std.specs.Prelude.{◌≡◌, ℕ, Bool, true, false, ◌||◌, ◌==◌, if◌then◌else◌, List, [], ◌∷◌, codes, Option, Some, None}
+use Rattle.std.specs.Prelude.{◌≡◌, ℕ, ◌<◌, ◌≤◌, Bool, true, false, ◌||◌, ◌==◌, if◌then◌else◌, List, [], ◌∷◌, codes, Option, Some, None, IfSome}
 use Rattle.std.specs.Str.{bytes_eq}
 use Rattle.vg_ir.specs.declared.name.NameAt.{NameAt}
 use Rattle.vg_ir.specs.declared.ty.Ty.{Ty}
@@ -59,6 +59,15 @@ a_result_name = record { grammar = is_result_name; spelled = spelled_result_name
 
 -- ---- operands
 
+-- how many bits an integer may have
+pub record IsWidth (width : ℕ) : Type 0 where
+  pub wide : 0 < width
+  pub narrow : width ≤ 64
+
+-- where a type is an integer, it has so many
+abbrev pub HasWidth : Ty → Type 0
+HasWidth t = IfSome (integer_width t) (λ w. IsWidth w)
+
 -- a number of an integer of so many bits, or at a type that is none
 abbrev pub is_number_for : Option ℕ → List ℕ → Bool
 is_number_for (Some width) text = is_number_of width text
@@ -94,7 +103,7 @@ abbrev pub value_type_at : Wanted → Reader TypeAt
 value_type_at w = token_at scalar_of w
 
 abbrev pub a_value_type : Spelling TypeTree TypeAt
-a_value_type = record { grammar = is_value_type; spelled = spelled_type value_type; means = tree.type_at; nests = nesting }
+a_value_type = record { grammar = is_value_type; spelled = spelled_type value_type; means = tree.type_at; nests = λ t. 0 }
 
 abbrev pub value_type_kinds : List Kind
 value_type_kinds = words (codes "i1" ∷ codes "i8" ∷ codes "i16" ∷ codes "i32" ∷ codes "i64" ∷ codes "ptr" ∷ []) ∷ []
@@ -119,4 +128,4 @@ abbrev pub a_typed : Role → Spelling TypedTree TypedOperand
 a_typed role = record { grammar = is_typed; spelled = spelled_typed role; means = tree.typed_of; nests = λ t. nesting t.ty }
 
 abbrev pub a_value : Spelling TypedTree TypedOperand
-a_value = record { grammar = is_value; spelled = spelled_typed value_type; means = tree.typed_of; nests = λ t. nesting t.ty }
+a_value = record { grammar = is_value; spelled = spelled_typed value_type; means = tree.typed_of; nests = λ t. 0 }

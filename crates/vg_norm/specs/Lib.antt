@@ -1,1 +1,5 @@
 pub mod Normal
+pub mod NormalTree
+pub mod Width
+pub mod Growing
+pub mod Images

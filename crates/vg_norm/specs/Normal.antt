@@ -1,13 +1,15 @@
 -- The normal form of a graph.
-use Rattle.std.specs.Prelude.{◌≡◌, ℕ, ◌≤◌, Option, Some, None, slice_get, IsTrue}
+use Rattle.std.specs.Prelude.{◌≡◌, ◌↔◌, ℕ, ◌≤◌, Option, Some, None, slice_get, IsTrue}
 use Rattle.vg_isa.specs.declared.expr.Expr.{Expr}
 use Rattle.vg_isa.specs.declared.expr.Expr.TheOpen.{Expr-F}
 use Rattle.vg_isa.specs.Typing.{width_of}
+use Rattle.vg_isa.specs.Value.{IsLawful, Reads}
 use Rattle.vg_graph.specs.declared.root.Root.{Root}
 use Rattle.vg_graph.specs.Node.{node_of}
 use Rattle.vg_graph.specs.Tree.{IsTree}
 use Rattle.vg_graph.specs.Graph.{GraphValue, IsShared, root_of}
 use Rattle.vg_graph.specs.Alike.{Alike, commutes}
+use Rattle.vg_graph.specs.Replaced.{HaveOneValue}
 
 -- the tree at the node has this width
 abbrev pub HasWidth : GraphValue → ℕ → ℕ → Type 0
@@ -41,3 +43,18 @@ AreAlike g None h (Some n) = ⊥
 -- each root's tree is the same up to the freedoms
 abbrev pub HasSameTrees : GraphValue → GraphValue → Type 0
 HasSameTrees old new = (r : Root) → AreAlike old (root_of old.roots r) new (root_of new.roots r)
+
+-- each root keeps its value, for each word in each lawful state
+abbrev pub KeepsValues : GraphValue → GraphValue → Type 0
+KeepsValues old new =
+    (r : Root) (m n word : ℕ) (s : Reads) → root_of old.roots r ≡ Some m → root_of new.roots r ≡ Some n → IsLawful old.isa s → HaveOneValue word s old m new n
+
+-- two roots are one node exactly where their trees were alike
+abbrev pub HasOneRoot : GraphValue → GraphValue → Type 0
+HasOneRoot old new =
+    (r q : Root) (m n : ℕ) (e f : Expr)
+    → root_of old.roots r ≡ Some m
+    → root_of old.roots q ≡ Some n
+    → IsTree old.nodes m e
+    → IsTree old.nodes n f
+    → (Alike old.isa e f ↔ (root_of new.roots r ≡ root_of new.roots q))

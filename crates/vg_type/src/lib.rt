@@ -61,11 +61,12 @@ pub use finding::{find, named};
 pub use first_places::FirstPlaces;
 pub use judgement::Judgement;
 pub use judging::judged;
-pub use looking::global;
+pub use looking::{global, item_sort};
 pub use names::Names;
 pub use operator::{
-    binary_type, bytes_type, cast_type, join_type, operand_type, slice_type, unary_type,
+    binary_type, bytes_type, cast_type, choice_type, is_shift, join_type, operand_type, slice_type,
+    unary_type,
 };
 pub use setting::Setting;
-pub use sort::{Sort, common_type, sort_of_type};
+pub use sort::{Sort, common_type, sort_of_type, whole_or};
 pub use value_type::{ValueType, fits, same_type, type_of, width_of};

@@ -11,6 +11,7 @@ use crate::machine::{counter_width, format_width};
 use vg_inline::Context;
 
 /// Where expressions are typed: what is known of the items, and how wide an address and a format are.
+#[derive(Drop)]
 pub struct Setting<'a> {
     pub context: &'a Context<'a>,
     /// The declared width of the first program counter, and so of an address.

@@ -24,11 +24,17 @@ from_limit = rules.Limit ∷ []
 abbrev from_stage : List Rule
 from_stage = rules.StageOrder ∷ from_limit
 
+abbrev from_role : List Rule
+from_role = rules.AbiRole ∷ from_stage
+
 abbrev from_index : List Rule
-from_index = rules.IndexNotField ∷ from_stage
+from_index = rules.IndexNotField ∷ from_role
+
+abbrev from_value : List Rule
+from_value = rules.FieldValue ∷ from_index
 
 abbrev from_cover : List Rule
-from_cover = rules.FieldCover ∷ from_index
+from_cover = rules.FieldCover ∷ from_value
 
 abbrev from_range : List Rule
 from_range = rules.Range ∷ from_cover
@@ -72,28 +78,42 @@ module _ (d : Desc) where
       behind_range = behind_width ∙ past rules.Range from_cover range_kept
 
       pub cover_told : (f : DescFault) → TellsOf d rules.FieldCover f → Tells (breach_asked d) f
-      cover_told f h = asked rules.FieldCover from_index f h behind_range
+      cover_told f h = asked rules.FieldCover from_value f h behind_range
 
       module _ (cover_kept : IsKept d rules.FieldCover) where
-        behind_cover : breach_asked d ≡ first_breach (places_of d) from_index
-        behind_cover = behind_range ∙ past rules.FieldCover from_index cover_kept
+        behind_cover : breach_asked d ≡ first_breach (places_of d) from_value
+        behind_cover = behind_range ∙ past rules.FieldCover from_value cover_kept
 
-        pub index_told : (f : DescFault) → TellsOf d rules.IndexNotField f → Tells (breach_asked d) f
-        index_told f h = asked rules.IndexNotField from_stage f h behind_cover
+        pub value_told : (f : DescFault) → TellsOf d rules.FieldValue f → Tells (breach_asked d) f
+        value_told f h = asked rules.FieldValue from_index f h behind_cover
 
-        module _ (index_kept : IsKept d rules.IndexNotField) where
-          behind_index : breach_asked d ≡ first_breach (places_of d) from_stage
-          behind_index = behind_cover ∙ past rules.IndexNotField from_stage index_kept
+        module _ (value_kept : IsKept d rules.FieldValue) where
+          behind_value : breach_asked d ≡ first_breach (places_of d) from_index
+          behind_value = behind_cover ∙ past rules.FieldValue from_index value_kept
 
-          pub stage_told : (f : DescFault) → TellsOf d rules.StageOrder f → Tells (breach_asked d) f
-          stage_told f h = asked rules.StageOrder from_limit f h behind_index
+          pub index_told : (f : DescFault) → TellsOf d rules.IndexNotField f → Tells (breach_asked d) f
+          index_told f h = asked rules.IndexNotField from_role f h behind_value
 
-          module _ (stage_kept : IsKept d rules.StageOrder) where
-            behind_stage : breach_asked d ≡ first_breach (places_of d) from_limit
-            behind_stage = behind_index ∙ past rules.StageOrder from_limit stage_kept
+          module _ (index_kept : IsKept d rules.IndexNotField) where
+            behind_index : breach_asked d ≡ first_breach (places_of d) from_role
+            behind_index = behind_value ∙ past rules.IndexNotField from_role index_kept
 
-            pub limit_told : (f : DescFault) → TellsOf d rules.Limit f → Tells (breach_asked d) f
-            limit_told f h = asked rules.Limit [] f h behind_stage
+            pub role_told : (f : DescFault) → TellsOf d rules.AbiRole f → Tells (breach_asked d) f
+            role_told f h = asked rules.AbiRole from_stage f h behind_index
 
-            pub all_kept : IsKept d rules.Limit → breach_asked d ≡ None
-            all_kept h = behind_stage ∙ past rules.Limit [] h
+            module _ (role_kept : IsKept d rules.AbiRole) where
+              behind_role : breach_asked d ≡ first_breach (places_of d) from_stage
+              behind_role = behind_index ∙ past rules.AbiRole from_stage role_kept
+
+              pub stage_told : (f : DescFault) → TellsOf d rules.StageOrder f → Tells (breach_asked d) f
+              stage_told f h = asked rules.StageOrder from_limit f h behind_role
+
+              module _ (stage_kept : IsKept d rules.StageOrder) where
+                behind_stage : breach_asked d ≡ first_breach (places_of d) from_limit
+                behind_stage = behind_role ∙ past rules.StageOrder from_limit stage_kept
+
+                pub limit_told : (f : DescFault) → TellsOf d rules.Limit f → Tells (breach_asked d) f
+                limit_told f h = asked rules.Limit [] f h behind_stage
+
+                pub all_kept : IsKept d rules.Limit → breach_asked d ≡ None
+                all_kept h = behind_stage ∙ past rules.Limit [] h

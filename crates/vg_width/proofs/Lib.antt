@@ -13,3 +13,12 @@ pub mod StageWhole
 pub mod EarliestLemmas
 pub mod IndexLemmas
 pub mod IndexWhole
+pub mod TypedLemmas
+pub mod TypedNodes
+pub mod TypedTrees
+mod MadeLemmas
+mod ResourceLemmas
+pub mod SameLemmas
+pub mod EncodingLemmas
+pub mod DifferLemmas
+pub mod AbiLemmas

@@ -225,14 +225,15 @@ module _ (w named mask : ℕ) (s : Span) (front : List Span) (narrow : w ≤ 64)
 
 -- ---- all bits
 
-each_below : (p : ℕ → Bool) (w b : ℕ) → list_all p (range_with_len 0 w) ≡ true → b < w → p b ≡ true
+-- what holds of each number of a range holds of each below its end
+pub each_below : (p : ℕ → Bool) (w b : ℕ) → list_all p (range_with_len 0 w) ≡ true → b < w → p b ≡ true
 each_below p w b e h =
     true_from_ne_false (p b) (λ f. both_ways (list_all p (range_with_len 0 w))
     (let within : b < length (range_with_len 0 w) = (let long = length-range_with_len 0 w in omega arith) in
     let same : get_or (range_with_len 0 w) b 0 ≡ b = (let at = get_or-range_with_len 0 w b 0 h in omega arith) in
     list_all_at p (range_with_len 0 w) b 0 within (ap p same ∙ f)) e)
 
-all_below : (p : ℕ → Bool) (w : ℕ) → ((b : ℕ) → b < w → p b ≡ true) → list_all p (range_with_len 0 w) ≡ true
+pub all_below : (p : ℕ → Bool) (w : ℕ) → ((b : ℕ) → b < w → p b ≡ true) → list_all p (range_with_len 0 w) ≡ true
 all_below p w h =
     list_all-from_AllPass p (range_with_len 0 w) (λ k d l.
     let within : k < w = (let long = length-range_with_len 0 w in omega arith) in

@@ -1,70 +1,49 @@
--- Where no range is broken, no format is wider than 64 bits.
-use Rattle.std.proofs.Common.{◌≡◌, ℕ, Bool, true, false, ◌||◌, ◌&&◌, not, nat_eq, nat_le, List, [], ◌∷◌, ◌++◌, Option, Some, None, refl, sym, ap, subst, ◌∙◌, true≢false}
+-- Formats are no wider than 64 bits where no range is broken.
+use Rattle.std.proofs.Common.{◌≡◌, ℕ, Bool, true, false, not, ◌||◌, nat_eq, nat_le, List, [], ◌∷◌, ◌++◌, Option, Some, None, refl, ap, sym, ◌∙◌, arith}
 use Rattle.std.specs.List.{list_all}
+use Rattle.std.proofs.lemmas.Bool.{and_from, not-false, or_parts}
+use Rattle.std.proofs.lemmas.Bool.Decides.{nat_tests}
 use Rattle.vg_ast.specs.declared.desc.Desc.{Desc}
-use Rattle.vg_ast.specs.declared.field.Field.{Field}
-use Rattle.vg_ast.specs.declared.item.Item.{Item}
-use Rattle.vg_ast.specs.declared.item.Item.TheVariants as items
 use Rattle.vg_ast.specs.declared.expr.Expr.{Expr}
 use Rattle.vg_ast.specs.declared.type_expr.TypeExpr.{TypeExpr}
+use Rattle.vg_ast.specs.declared.item.Item.{Item}
+use Rattle.vg_ast.specs.declared.item.Item.TheVariants as items
 use Rattle.vg_names.specs.First.{first_of}
 use Rattle.vg_names.proofs.FirstLemmas.{nothing_first}
-use Rattle.vg_isa.proofs.Tests.{true-nat_eq}
-use Rattle.vg_type.specs.Faults.{of_each, of_any}
+use Rattle.vg_type.specs.Faults.{of_any, of_each}
 use Rattle.vg_type.specs.Judged.{told}
-use Rattle.vg_type.specs.Scope.{declared_in, is_machine_width, width_given, width_in}
-use Rattle.vg_type.specs.Item.{Setting, abi_faults, field_faults, first_format, format_type_faults, in_type, is_wrong_format, item_faults, setting_of, type_start, wrong_ranges}
-use Rattle.vg_width.specs.FieldCover.{are_narrow, format_width, is_narrow, width_or}
+use Rattle.vg_type.specs.Scope.{declared_in, is_machine_width, width_in}
+use Rattle.vg_type.specs.Item.{Setting, abi_faults, differ, field_faults, first_format, format_type_faults, in_type, is_no_machine_width, is_wrong_format, item_faults, setting_of, type_start, width_given, wrong_ranges}
+use Rattle.vg_width.specs.FieldCover.{are_narrow, is_narrow, width_or}
 
--- what is put in front of nothing is nothing
-pub front_empty : (xs ys : List ℕ) → xs ++ ys ≡ [] → xs ≡ []
-front_empty [] ys e = refl
-front_empty (x ∷ xs) ys e = absurd (cc)
+left_empty : (xs ys : List ℕ) → xs ++ ys ≡ [] → xs ≡ []
+left_empty [] ys e = refl
+left_empty (x ∷ xs) ys e = absurd (cc)
 
-pub behind_empty : (xs ys : List ℕ) → xs ++ ys ≡ [] → ys ≡ []
-behind_empty [] ys e = e
-behind_empty (x ∷ xs) ys e = absurd (cc)
+right_empty : (xs ys : List ℕ) → xs ++ ys ≡ [] → ys ≡ []
+right_empty [] ys e = e
+right_empty (x ∷ xs) ys e = absurd (cc)
 
-told_nothing : (t : Bool) (at : ℕ) → told t at ≡ [] → t ≡ false
-told_nothing false at e = refl
-told_nothing true at e = absurd (cc)
-
-or_first : (a b : Bool) → (a || b) ≡ false → a ≡ false
-or_first false b e = refl
-or_first true b e = absurd (true≢false e)
-
-and_both : (a b : Bool) → a ≡ true → b ≡ true → (a && b) ≡ true
-and_both a b e h = ap (λ x. x && b) e ∙ h
-
-not_false : (t : Bool) → not t ≡ false → t ≡ true
-not_false true e = refl
-not_false false e = absurd (true≢false e)
+not_told : (t : Bool) (at : ℕ) → told t at ≡ [] → t ≡ false
+not_told true at e = absurd (cc)
+not_told false at e = refl
 
 machine_narrow : (n : ℕ) → is_machine_width n ≡ true → nat_le n 64 ≡ true
-machine_narrow n e = by (nat_eq n 16) refl (nat_eq n 32) refl (nat_eq n 64) refl e
-  where
-    by : (a : Bool) → nat_eq n 16 ≡ a → (b : Bool) → nat_eq n 32 ≡ b → (c : Bool) → nat_eq n 64 ≡ c → ((a || b) || c) ≡ true → nat_le n 64 ≡ true
-    by true is b y c z h = ap (λ m. nat_le m 64) (true-nat_eq n 16 is)
-    by false x true is c z h = ap (λ m. nat_le m 64) (true-nat_eq n 32 is)
-    by false x false y true is h = ap (λ m. nat_le m 64) (true-nat_eq n 64 is)
-    by false x false y false z h = absurd (true≢false (sym h))
+machine_narrow n e = grind (arith, nat_tests, e)
 
-width_narrow : (first width : Option ℕ) → is_wrong_format first width ≡ false → nat_le (width_or width) 64 ≡ true
-width_narrow first None e = refl
-width_narrow first (Some n) e = machine_narrow n (not_false (is_machine_width n) (or_first (not (is_machine_width n)) _ e))
+width_narrow : (width : Option ℕ) → is_no_machine_width width ≡ false → nat_le (width_or width) 64 ≡ true
+width_narrow None e = refl
+width_narrow (Some n) e = machine_narrow n (not-false (is_machine_width n) e)
 
 module _ (setting : Setting) where
-  format_narrow : (given : TypeExpr Expr) (fields : List Field) → (format_type_faults setting given).ranges ++ (of_each (field_faults setting.scope) fields).ranges ≡ []
-      → nat_le (format_width setting given) 64 ≡ true
-  format_narrow given fields e =
-      let wrong : Bool = is_wrong_format (width_given setting.globals (first_format setting.all)) (width_in (declared_in setting.globals given)) in
-      width_narrow (width_given setting.globals (first_format setting.all)) (width_in (declared_in setting.globals given))
-      (told_nothing wrong (type_start given)
-      (front_empty (told wrong (type_start given)) (in_type setting.scope given).ranges
-      (front_empty (format_type_faults setting given).ranges (of_each (field_faults setting.scope) fields).ranges e)))
+  format_narrow : (given : TypeExpr Expr) → (format_type_faults setting given).ranges ≡ [] → nat_le (width_or (width_in (declared_in setting.globals given))) 64 ≡ true
+  format_narrow given e =
+      let first = width_given setting.globals (first_format setting.all) in
+      let width = width_in (declared_in setting.globals given) in
+      width_narrow width (or_parts (is_no_machine_width width) (differ first width)
+      (not_told (is_wrong_format first width) (type_start given) (left_empty (told (is_wrong_format first width) (type_start given)) ((in_type setting.scope given).ranges) e))).0
 
   item_narrow : (item : Item) → (item_faults setting item).ranges ≡ [] → is_narrow setting item ≡ true
-  item_narrow (items.Format at name given fields) e = format_narrow given fields e
   item_narrow (items.Constant at name value) e = refl
   item_narrow (items.Using at name meaning) e = refl
   item_narrow (items.Function at name parameters given body) e = refl
@@ -72,6 +51,7 @@ module _ (setting : Setting) where
   item_narrow (items.Memory at name address cell) e = refl
   item_narrow (items.Register at name given) e = refl
   item_narrow (items.RegisterFile at name index given constant) e = refl
+  item_narrow (items.Format at name given fields) e = format_narrow given (left_empty ((format_type_faults setting given).ranges) ((of_each (field_faults setting.scope) fields).ranges) e)
   item_narrow (items.Instruction at name format behaviour) e = refl
   item_narrow (items.Encoding at name fixes) e = refl
   item_narrow (items.Assembly at name row) e = refl
@@ -79,15 +59,16 @@ module _ (setting : Setting) where
   all_narrow : (all : List Item) → (of_each (item_faults setting) all).ranges ≡ [] → list_all (is_narrow setting) all ≡ true
   all_narrow [] e = refl
   all_narrow (item ∷ more) e =
-      and_both (is_narrow setting item) (list_all (is_narrow setting) more)
-      (item_narrow item (front_empty (item_faults setting item).ranges (of_each (item_faults setting) more).ranges e))
-      (all_narrow more (behind_empty (item_faults setting item).ranges (of_each (item_faults setting) more).ranges e))
+      and_from (is_narrow setting item) (list_all (is_narrow setting) more)
+      (item_narrow item (left_empty ((item_faults setting item).ranges) ((of_each (item_faults setting) more).ranges) e))
+      (all_narrow more (right_empty ((item_faults setting item).ranges) ((of_each (item_faults setting) more).ranges) e))
 
--- so it is of a whole description
-pub narrow : (d : Desc) → wrong_ranges d ≡ [] → are_narrow (setting_of d.items) ≡ true
-narrow d e =
-    let setting : Setting = setting_of d.items in
-    all_narrow setting setting.all (front_empty (of_each (item_faults setting) setting.all).ranges (of_any (abi_faults setting.scope) d.abi).ranges e)
+-- what the rule on formats asks for is so where no range is broken
+pub narrow_formats : (d : Desc) → wrong_ranges d ≡ [] → are_narrow (setting_of d.items) ≡ true
+narrow_formats d e =
+    let setting = setting_of d.items in
+    all_narrow setting d.items (left_empty ((of_each (item_faults setting) d.items).ranges) ((of_any (abi_faults setting.scope) d.abi).ranges) e)
 
+-- so it is in a setting of the description
 pub are_narrow_in : (d : Desc) (setting : Setting) → setting ≡ setting_of d.items → first_of (wrong_ranges d) ≡ None → are_narrow setting ≡ true
-are_narrow_in d setting is e = ap are_narrow is ∙ narrow d (nothing_first (wrong_ranges d) e)
+are_narrow_in d setting is e = ap are_narrow is ∙ narrow_formats d (nothing_first (wrong_ranges d) e)

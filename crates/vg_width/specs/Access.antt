@@ -25,7 +25,9 @@ use Rattle.vg_isa.specs.declared.expr.Expr.{Expr}
 use Rattle.vg_isa.specs.Same.{same_tree}
 use Rattle.vg_width.specs.FieldCover.{value_or}
 use Rattle.vg_width.specs.Resource.{format_id}
-use Rattle.vg_width.specs.Made.{Frame, Made, Reading, made, at_place}
+use Rattle.vg_width.specs.declared.made.Made.{Made}
+use Rattle.vg_width.specs.declared.reading.Reading.{Reading}
+use Rattle.vg_width.specs.Made.{Frame, made, at_place}
 use Rattle.vg_width.specs.Written.{target_number, target_place, part_type, first_part}
 
 -- ---- writes
@@ -48,7 +50,7 @@ part_tree frame target (Some part) = Some (at_place (part_type frame.setting tar
 
 abbrev pub write_of : Frame → Target → List Tree → Write
 write_of frame target parts =
-    record { item = target_number frame.setting target; at = part_tree frame target (first_part frame target parts); bytes = target_size target; place = target_place target }
+    record { item = target_number frame.setting target; at = part_tree frame target (first_part frame parts); bytes = target_size target; place = target_place target }
 
 abbrev pub same_part : Option Expr → Option Expr → Bool
 same_part (Some a) (Some b) = same_tree a b

@@ -1,6 +1,6 @@
 -- The tree of a processor that stands for an expression with everything in place: kinds of types are gone, operators tell
 -- whether they are signed, all comparisons are `=` and `<`, and whole numbers are constants of the width of their place.
-use Rattle.std.specs.Prelude.{ℕ, Bool, true, false, nat_eq, nat_lt, List, [], ◌∷◌, flat_map, Option, Some, None, slice_get, if◌then◌else◌}
+use Rattle.std.specs.Prelude.{ℕ, Bool, true, false, ◌%◌, ◌^◌, nat_eq, nat_lt, List, [], ◌∷◌, ◌++◌, Option, Some, None, slice_get, if◌then◌else◌}
 use Rattle.std.specs.Option.{option_map_or}
 use Rattle.vg_ast.specs.declared.operator.UnaryOperator.{UnaryOperator}
 use Rattle.vg_ast.specs.declared.operator.UnaryOperator.TheVariants as unary
@@ -19,11 +19,10 @@ use Rattle.vg_type.specs.declared.value_type.ValueType.{ValueType}
 use Rattle.vg_type.specs.declared.value_type.ValueType.TheVariants.{Sized}
 use Rattle.vg_type.specs.declared.sort.Sort.{Sort}
 use Rattle.vg_type.specs.declared.sort.Sort.TheVariants as sorts
-use Rattle.vg_type.specs.ValueType.{type_of, width_of, sort_of_type, whole_or, common_type}
+use Rattle.vg_type.specs.ValueType.{is_width, same_type, type_of, width_of, sort_of_type, whole_or, common_type}
 use Rattle.vg_type.specs.Operator.{is_shift, unary_type, binary_type, operand_type, cast_type, slice_type, join_type, bytes_type, choice_type}
-use Rattle.vg_type.specs.Expression.{Signature}
-use Rattle.vg_type.specs.Scope.{item_sort, signature_of, address_type, address_width}
-use Rattle.vg_type.specs.Item.{Setting, index_type}
+use Rattle.vg_type.specs.Scope.{address_type, address_width}
+use Rattle.vg_type.specs.Item.{Setting}
 use Rattle.vg_isa.specs.declared.expr.Expr.{Expr}
 use Rattle.vg_isa.specs.declared.expr.Expr.TheVariants as exprs
 use Rattle.vg_isa.specs.declared.operator.UnOp.TheVariants as unop
@@ -32,7 +31,10 @@ use Rattle.vg_isa.specs.declared.operator.BinOp.TheVariants as binop
 use Rattle.vg_isa.specs.declared.operator.CastOp.{CastOp}
 use Rattle.vg_isa.specs.declared.operator.CastOp.TheVariants as castop
 use Rattle.vg_width.specs.FieldCover.{value_or}
-use Rattle.vg_width.specs.Resource.{is_counter, register_id}
+use Rattle.vg_width.specs.declared.made.Made.{Made}
+use Rattle.vg_width.specs.declared.reading.Reading.{Reading}
+use Rattle.vg_width.specs.declared.resource.Resource.{Resource}
+use Rattle.vg_width.specs.Resource.{resource_at, typed_sort}
 
 -- ---- what a tree is made with
 
@@ -42,32 +44,29 @@ pub record Frame : Type 0 where
   pub format : ℕ
   pub fields : List (Text × Sort)
 
--- a memory read: where its memory and its address stand in the text, its address and its size
-pub record Reading : Type 0 where
-  pub at : ℕ
-  pub address_at : ℕ
-  pub address : Expr
-  pub bytes : ℕ
-
--- what a tree is, the tree that stands for it, and the memory reads in it; a whole number stands there at 128 bits
-pub record Made : Type 0 where
-  pub sort : Sort
-  pub tree : Expr
-  pub readings : List Reading
-
 -- ---- constants
 
-abbrev pub constant : ℕ → ℕ → Expr
-constant width n = exprs.Const (record { width = width; number = n })
+-- where an expression has no type, it has no tree either: this one stands there
+abbrev pub no_tree : Expr
+no_tree = exprs.Const (record { width = 128; number = 0 })
 
-abbrev pub constant_of : ValueType → Sort → Expr → Expr
-constant_of t (sorts.Whole n) tree = constant (width_of t) n
-constant_of t _ tree = tree
+-- a number at a width of values; one that fits stays as it is
+unfoldable pub constant : ℕ → ℕ → Expr
+constant width n = if is_width width then exprs.Const (record { width = width; number = n % 2 ^ width }) else no_tree
 
--- at a place of this type a whole number takes it
+-- At a place of this type stand a tree of the type, and a whole number, which takes it. Anything else is refused by the rule
+-- of types, and counts as 0 here.
+abbrev pub taken : ValueType → Sort → Expr → Expr
+taken t (sorts.Typed u) tree = if same_type t u then tree else constant (width_of t) 0
+taken t (sorts.Whole n) tree = constant (width_of t) n
+taken t _ tree = constant (width_of t) 0
+
+abbrev pub placed : Option ValueType → Sort → Expr → Expr
+placed None sort tree = tree
+placed (Some t) sort tree = taken t sort tree
+
 abbrev pub at_place : Option ValueType → Made → Expr
-at_place None made = made.tree
-at_place (Some t) made = constant_of t made.sort made.tree
+at_place t made = placed t made.sort made.tree
 
 -- ---- operators
 
@@ -111,10 +110,6 @@ binary_tree binary.MultiplyLong signed a b = exprs.Binary (binop.MulLong signed)
 binary_tree binary.Divide signed a b = exprs.Binary (either signed binop.Sdiv binop.Udiv) a b
 binary_tree binary.Remainder signed a b = exprs.Binary (either signed binop.Srem binop.Urem) a b
 
-abbrev pub typed_sort : Sort → Option ValueType
-typed_sort (sorts.Typed t) = Some t
-typed_sort _ = None
-
 -- the operands are signed where their type is SInt; of a shift the left one counts
 abbrev pub operands_type : BinaryOperator → Sort → Sort → Option ValueType
 operands_type op left right = if is_shift op then typed_sort left else common_type left right
@@ -137,23 +132,22 @@ abbrev pub cast_tree : Option ValueType → Sort → Expr → Expr
 cast_tree None from tree = tree
 cast_tree (Some t) (sorts.Whole n) tree = constant (width_of t) n
 cast_tree (Some t) (sorts.Typed from) tree = exprs.Cast (cast_operator from (width_of t)) (width_of t) tree
-cast_tree (Some t) _ tree = tree
+cast_tree (Some t) _ tree = constant (width_of t) 0
 
 -- ---- nodes
 
-abbrev pub all_readings : List Made → List Reading
-all_readings parts = flat_map (λ (made : Made). made.readings) parts
+abbrev pub tree_where : Option ValueType → Expr → Expr
+tree_where None tree = no_tree
+tree_where (Some t) tree = tree
 
 -- what has a type, if it has one
-abbrev pub made_of : Option ValueType → Expr → List Made → Made
-made_of t tree parts = record { sort = sort_of_type t; tree = tree; readings = all_readings parts }
-
-abbrev pub no_tree : Expr
-no_tree = constant 128 0
+abbrev pub made_of : Option ValueType → Expr → List Reading → Made
+made_of t tree readings = record { sort = sort_of_type t; tree = tree_where t tree; readings = readings }
 
 abbrev pub nothing_made : Made
 nothing_made = record { sort = sorts.Untyped; tree = no_tree; readings = [] }
 
+-- a whole number stands there at 128 bits, until it takes the type of its place
 abbrev pub whole_made : Worth → Made
 whole_made worth = record { sort = whole_or worth sorts.Untyped; tree = constant 128 (value_or worth); readings = [] }
 
@@ -165,76 +159,99 @@ constant_made worth (Some t) = made_of (Some t) (constant (width_of t) (value_or
 abbrev pub field_sort_at : Frame → ℕ → Sort
 field_sort_at frame k = option_map_or (λ (field : Text × Sort). field.1) (slice_get frame.fields k) sorts.Untyped
 
+abbrev pub field_tree : ℕ → ℕ → Expr
+field_tree format k = exprs.Field (record { format = record { 0 = format }; index = k })
+
 abbrev pub field_made : Frame → ℕ → Made
-field_made frame k = record { sort = field_sort_at frame k; tree = exprs.Field (record { format = record { 0 = frame.format }; index = k }); readings = [] }
+field_made frame k = made_of (typed_sort (field_sort_at frame k)) (field_tree frame.format k) []
 
-abbrev pub resource_tree : Setting → ℕ → Expr
-resource_tree setting k = if is_counter (slice_get setting.all k) then exprs.Pc else exprs.Reg (record { 0 = register_id setting.all k }) None
+-- the program counter, or a single register
+abbrev pub resource_tree : Resource → Expr
+resource_tree r = if r.is_counter then exprs.Pc else exprs.Reg r.id None
 
-abbrev pub resource_made : Setting → ℕ → Made
-resource_made setting k = record { sort = item_sort setting.globals (slice_get setting.all k); tree = resource_tree setting k; readings = [] }
+abbrev pub resource_made : Resource → Made
+resource_made r = made_of r.single (resource_tree r) []
 
-abbrev pub result_type : Option Signature → Option ValueType
-result_type None = None
-result_type (Some signature) = signature.result
-
-abbrev pub indexed_made : Setting → ℕ → Option Signature → Made → Made
-indexed_made setting k signature index =
-    made_of (result_type signature) (exprs.Reg (record { 0 = register_id setting.all k }) (Some (at_place (index_type signature) index))) (index ∷ [])
+-- a register of a file
+abbrev pub indexed_made : Resource → Made → Made
+indexed_made r index = made_of r.gives (exprs.Reg r.id (Some (at_place r.index index))) index.readings
 
 -- the type of an address
 abbrev pub address_in : Setting → Option ValueType
 address_in setting = address_type (address_width setting.all setting.globals)
 
-abbrev pub access_made : Setting → ℕ → Worth → ℕ → Made → Made
-access_made setting at size address_at address =
-    record {
-      sort = sort_of_type (bytes_type (whole_or size sorts.Untyped));
-      tree = exprs.Mem (at_place (address_in setting) address) (value_or size);
-      readings = record { at = at; address_at = address_at; address = at_place (address_in setting) address; bytes = value_or size } ∷ address.readings;
-    }
+abbrev pub reading_of : ℕ → Worth → ℕ → Expr → Reading
+reading_of at size address_at address = record { at = at; address_at = address_at; address = address; bytes = value_or size }
+
+-- a memory read, of an address of this type
+abbrev pub access_made : Option ValueType → ℕ → Worth → ℕ → Made → Made
+access_made t at size address_at address =
+    made_of (bytes_type (whole_or size sorts.Untyped)) (exprs.Mem (at_place t address) (value_or size))
+    (address.readings ++ reading_of at size address_at (at_place t address) ∷ [])
 
 abbrev pub unary_made : UnaryOperator → Made → Made
-unary_made op a = made_of (unary_type op a.sort) (unary_tree op a.tree) (a ∷ [])
+unary_made op a = made_of (unary_type op a.sort) (unary_tree op a.tree) a.readings
+
+abbrev pub operation_tree : BinaryOperator → Sort → Sort → Expr → Expr → Expr
+operation_tree op left right a b =
+    binary_tree op (is_signed (operands_type op left right)) (placed (operand_type op left right) left a) (placed (operand_type op left right) right b)
 
 abbrev pub binary_made : BinaryOperator → Made → Made → Made
-binary_made op a b =
-    made_of (binary_type op a.sort b.sort)
-    (binary_tree op (is_signed (operands_type op a.sort b.sort)) (at_place (operand_type op a.sort b.sort) a) (at_place (operand_type op a.sort b.sort) b))
-    (a ∷ b ∷ [])
+binary_made op a b = made_of (binary_type op a.sort b.sort) (operation_tree op a.sort b.sort a.tree b.tree) (a.readings ++ b.readings)
 
 abbrev pub cast_made : Declared → Made → Made
-cast_made target a = made_of (cast_type (type_of target) a.sort) (cast_tree (type_of target) a.sort a.tree) (a ∷ [])
+cast_made target a = made_of (cast_type (type_of target) a.sort) (cast_tree (type_of target) a.sort a.tree) a.readings
 
 abbrev pub slice_made : Worth → Worth → Made → Made
 slice_made high low a =
-    made_of (slice_type a.sort (whole_or high sorts.Untyped) (whole_or low sorts.Untyped)) (exprs.Slice a.tree (value_or high) (value_or low)) (a ∷ [])
+    made_of (slice_type a.sort (whole_or high sorts.Untyped) (whole_or low sorts.Untyped)) (exprs.Slice a.tree (value_or high) (value_or low)) a.readings
 
 abbrev pub join_made : Made → Made → Made
-join_made a b = made_of (join_type a.sort b.sort) (exprs.Join a.tree b.tree) (a ∷ b ∷ [])
+join_made a b = made_of (join_type a.sort b.sort) (exprs.Join a.tree b.tree) (a.readings ++ b.readings)
+
+abbrev pub choice_tree : Sort → Sort → Expr → Expr → Expr → Expr
+choice_tree one other c a b = exprs.If c (placed (common_type one other) one a) (placed (common_type one other) other b)
 
 abbrev pub if_made : Made → Made → Made → Made
-if_made c a b =
-    made_of (choice_type c.sort a.sort b.sort) (exprs.If c.tree (at_place (common_type a.sort b.sort) a) (at_place (common_type a.sort b.sort) b))
-    (c ∷ a ∷ b ∷ [])
+if_made c a b = made_of (choice_type c.sort a.sort b.sort) (choice_tree a.sort b.sort c.tree a.tree b.tree) ((c.readings ++ a.readings) ++ b.readings)
+
+-- what a whole number is worth
+abbrev pub worth_given : Option ℕ → Worth
+worth_given None = worths.NoValue
+worth_given (Some n) = worths.Whole n
+
+-- a node without parts, and those over one, two and three parts
+abbrev pub leaf_made : Frame → Head → Made
+leaf_made frame (heads.Whole value) = whole_made (worth_given value)
+leaf_made frame (heads.Constant value given) = constant_made (worth_given value) (type_of given)
+leaf_made frame (heads.Field k) = field_made frame k
+leaf_made frame (heads.Resource k) = resource_made (resource_at frame.setting k)
+leaf_made frame _ = nothing_made
+
+abbrev pub over_one : Frame → Head → Made → Made
+over_one frame (heads.Indexed k at index_at) a = indexed_made (resource_at frame.setting k) a
+over_one frame (heads.Access at size address_at) a = access_made (address_in frame.setting) at size address_at a
+over_one frame (heads.Unary op) a = unary_made op a
+over_one frame (heads.Cast target) a = cast_made target a
+over_one frame (heads.Slice high low) a = slice_made high low a
+over_one frame _ a = nothing_made
+
+abbrev pub over_two : Head → Made → Made → Made
+over_two heads.Join a b = join_made a b
+over_two (heads.Binary op) a b = binary_made op a b
+over_two _ a b = nothing_made
+
+abbrev pub over_three : Head → Made → Made → Made → Made
+over_three heads.If c a b = if_made c a b
+over_three _ c a b = nothing_made
 
 -- a node over its parts
 abbrev pub node_made : Frame → Head → List Made → Made
-node_made frame (heads.Whole (Some n)) [] = whole_made (worths.Whole n)
-node_made frame (heads.Whole None) [] = whole_made worths.NoValue
-node_made frame (heads.Constant (Some n) given) [] = constant_made (worths.Whole n) (type_of given)
-node_made frame (heads.Constant None given) [] = constant_made worths.NoValue (type_of given)
-node_made frame (heads.Field k) [] = field_made frame k
-node_made frame (heads.Resource k) [] = resource_made frame.setting k
-node_made frame (heads.Indexed k at index_at) (a ∷ []) = indexed_made frame.setting k (signature_of frame.setting.globals (slice_get frame.setting.all k)) a
-node_made frame (heads.Access at size address_at) (a ∷ []) = access_made frame.setting at size address_at a
-node_made frame heads.Join (a ∷ b ∷ []) = join_made a b
-node_made frame (heads.Unary op) (a ∷ []) = unary_made op a
-node_made frame (heads.Binary op) (a ∷ b ∷ []) = binary_made op a b
-node_made frame (heads.Cast target) (a ∷ []) = cast_made target a
-node_made frame (heads.Slice high low) (a ∷ []) = slice_made high low a
-node_made frame heads.If (c ∷ a ∷ b ∷ []) = if_made c a b
-node_made frame _ parts = nothing_made
+node_made frame head [] = leaf_made frame head
+node_made frame head (a ∷ []) = over_one frame head a
+node_made frame head (a ∷ b ∷ []) = over_two head a b
+node_made frame head (c ∷ a ∷ b ∷ []) = over_three head c a b
+node_made frame head _ = nothing_made
 
 -- one level of a tree
 abbrev pub made_step : Frame → Tree-F Made → Made

@@ -1,9 +1,17 @@
 -- The resources of a description, by the numbers of their items.
-use Rattle.std.specs.Prelude.{ℕ, ◌+◌, zero, suc, Bool, true, false, List, [], ◌∷◌, Option, Some, slice_get, if◌then◌else◌}
+use Rattle.std.specs.Prelude.{ℕ, ◌+◌, zero, suc, Bool, true, false, List, [], ◌∷◌, length, map, Option, Some, None, slice_get, if◌then◌else◌}
+use Rattle.std.specs.List.{range_with_len}
 use Rattle.vg_ast.specs.declared.item.Item.{Item}
 use Rattle.vg_ast.specs.declared.item.Item.TheVariants as items
+use Rattle.vg_type.specs.declared.value_type.ValueType.{ValueType}
+use Rattle.vg_type.specs.declared.sort.Sort.{Sort}
+use Rattle.vg_type.specs.declared.sort.Sort.TheVariants as sorts
+use Rattle.vg_type.specs.Expression.{Signature}
+use Rattle.vg_type.specs.Scope.{item_sort, signature_of}
+use Rattle.vg_type.specs.Item.{Setting, index_type}
 use Rattle.vg_isa.specs.declared.ids.ResourceId.{ResourceId}
 use Rattle.vg_isa.specs.declared.ids.ResourceId.TheVariants.{Memory, Reg}
+use Rattle.vg_width.specs.declared.resource.Resource.{Resource}
 
 abbrev pub is_register : Item → Bool
 is_register (items.Register at name given) = true
@@ -46,3 +54,43 @@ format_id all k = count_before is_format k all
 -- the memory, or the register that an item declares
 abbrev pub resource_id : List Item → ℕ → ResourceId
 resource_id all k = if is_memory (slice_get all k) then Memory else Reg (record { 0 = register_id all k })
+
+-- ---- what behaviours name
+
+abbrev pub typed_sort : Sort → Option ValueType
+typed_sort (sorts.Typed t) = Some t
+typed_sort _ = None
+
+abbrev pub result_type : Option Signature → Option ValueType
+result_type None = None
+result_type (Some signature) = signature.result
+
+abbrev pub no_resource : Resource
+no_resource = record { id = record { 0 = 0 }; is_counter = false; single = None; index = None; gives = None }
+
+-- an item, where so many registers stand in front
+abbrev pub resource_of : Setting → ℕ → Item → Resource
+resource_of setting registers item =
+    record {
+      id = record { 0 = registers };
+      is_counter = is_counter (Some item);
+      single = typed_sort (item_sort setting.globals (Some item));
+      index = index_type (signature_of setting.globals (Some item));
+      gives = result_type (signature_of setting.globals (Some item));
+    }
+
+abbrev pub resource_or : Setting → ℕ → Option Item → Resource
+resource_or setting registers None = no_resource
+resource_or setting registers (Some item) = resource_of setting registers item
+
+-- the registers with an item behind so many
+abbrev pub with_register : ℕ → Item → ℕ
+with_register registers item = if is_register item then registers + 1 else registers
+
+-- the item of a number
+abbrev pub resource_at : Setting → ℕ → Resource
+resource_at setting k = resource_or setting (register_id setting.all k) (slice_get setting.all k)
+
+-- all items
+abbrev pub resources_of : Setting → List Resource
+resources_of setting = map (resource_at setting) (range_with_len 0 (length setting.all))

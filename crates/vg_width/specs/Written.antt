@@ -1,5 +1,5 @@
 -- What a behaviour writes: for each resource the condition of the paths that write it, where and what.
-use Rattle.std.specs.Prelude.{ℕ, Bool, ◌&&◌, nat_eq, List, [], ◌∷◌, ◌++◌, Option, Some, None, if◌then◌else◌}
+use Rattle.std.specs.Prelude.{ℕ, Bool, false, ◌&&◌, nat_eq, List, [], ◌∷◌, ◌++◌, Option, Some, None, if◌then◌else◌}
 use Rattle.std.specs.Option.{option_map, option_or}
 use Rattle.vg_inline.specs.declared.tree.Tree.{Tree}
 use Rattle.vg_inline.specs.declared.effect.Target.{Target}
@@ -7,18 +7,20 @@ use Rattle.vg_inline.specs.declared.effect.Target.TheVariants as targets
 use Rattle.vg_inline.specs.declared.effect.Effect.{Effect, fold-Effect}
 use Rattle.vg_inline.specs.declared.effect.Effect.TheOpen.{Effect-F}
 use Rattle.vg_type.specs.declared.value_type.ValueType.{ValueType}
+use Rattle.vg_type.specs.declared.value_type.ValueType.TheVariants.{Bool as BoolType}
 use Rattle.vg_type.specs.declared.sort.Sort.TheVariants as sorts
 use Rattle.vg_type.specs.ValueType.{whole_or}
 use Rattle.vg_type.specs.Operator.{bytes_type}
-use Rattle.vg_type.specs.Scope.{item_sort, signature_of}
-use Rattle.vg_type.specs.Item.{Setting, index_type}
-use Rattle.vg_isa.specs.declared.expr.Expr.{Expr}
+use Rattle.vg_type.specs.Item.{Setting}
+use Rattle.vg_isa.specs.declared.expr.Expr.{Expr, fold-Expr}
+use Rattle.vg_isa.specs.declared.expr.Expr.TheOpen.{Expr-F}
 use Rattle.vg_isa.specs.declared.expr.Expr.TheVariants as exprs
 use Rattle.vg_isa.specs.declared.operator.BinOp.TheVariants as binop
-use Rattle.vg_isa.specs.Same.{same_tree}
-use Rattle.std.specs.Prelude.{slice_get}
-use Rattle.vg_width.specs.Resource.{memory_number}
-use Rattle.vg_width.specs.Made.{Frame, Made, Reading, made, constant, at_place, negated, typed_sort, result_type, address_in}
+use Rattle.vg_width.specs.declared.made.Made.{Made}
+use Rattle.vg_width.specs.declared.reading.Reading.{Reading}
+use Rattle.vg_width.specs.declared.written.Written.{Written}
+use Rattle.vg_width.specs.Resource.{memory_number, resource_at}
+use Rattle.vg_width.specs.Made.{Frame, made, at_place, negated, address_in}
 
 -- ---- targets
 
@@ -43,38 +45,33 @@ part_place (targets.Access at size address_at) = Some address_at
 -- the type of an index or address
 abbrev pub part_type : Setting → Target → Option ValueType
 part_type setting (targets.Resource k at) = None
-part_type setting (targets.Indexed k at index_at) = index_type (signature_of setting.globals (slice_get setting.all k))
+part_type setting (targets.Indexed k at index_at) = (resource_at setting k).index
 part_type setting (targets.Access at size address_at) = address_in setting
 
 -- the type of what is written
 abbrev pub target_type : Setting → Target → Option ValueType
-target_type setting (targets.Resource k at) = typed_sort (item_sort setting.globals (slice_get setting.all k))
-target_type setting (targets.Indexed k at index_at) = result_type (signature_of setting.globals (slice_get setting.all k))
+target_type setting (targets.Resource k at) = (resource_at setting k).single
+target_type setting (targets.Indexed k at index_at) = (resource_at setting k).gives
 target_type setting (targets.Access at size address_at) = bytes_type (whole_or size sorts.Untyped)
 
 -- ---- writes
 
--- a guarded write, with where its parts stand in the text, and the memory reads in it
-pub record Written : Type 0 where
-  pub guard : Expr
-  pub guard_spot : Option ℕ
-  pub at : Option Expr
-  pub at_spot : Option ℕ
-  pub value : Expr
-  pub value_spot : ℕ
-  pub readings : List Reading
-
 -- the constant true
 abbrev pub always : Expr
-always = constant 1 1
+always = exprs.Const (record { width = 1; number = 1 })
 
+abbrev pub always_step : Expr-F Bool → Bool
+always_step (Expr-F.Const bits) = nat_eq bits.width 1 && nat_eq bits.number 1
+always_step _ = false
+
+-- a guard is the constant true
 abbrev pub is_always : Expr → Bool
-is_always guard = same_tree guard always
+is_always guard = fold-Expr Bool always_step guard
 
 -- the index or address, if there is one
-abbrev pub first_part : Frame → Target → List Tree → Option Made
-first_part frame target [] = None
-first_part frame target (part ∷ more) = Some (made frame part)
+abbrev pub first_part : Frame → List Tree → Option Made
+first_part frame [] = None
+first_part frame (part ∷ more) = Some (made frame part)
 
 abbrev pub readings_in : Option Made → List Reading
 readings_in None = []
@@ -124,7 +121,7 @@ on_both_sides at condition readings one other =
       at_spot = one.at_spot;
       value = exprs.If condition one.value other.value;
       value_spot = one.value_spot;
-      readings = readings ++ one.readings ++ other.readings;
+      readings = (readings ++ one.readings) ++ other.readings;
     }
 
 abbrev pub chosen : ℕ → Expr → List Reading → Option Written → Option Written → Option Written
@@ -142,12 +139,16 @@ abbrev pub else_written : Option (Option Written) → Option Written
 else_written None = None
 else_written (Some other) = other
 
+-- a condition stands at a place of type Bool
+abbrev pub condition_tree : Made → Expr
+condition_tree condition = at_place (Some BoolType) condition
+
 -- one level of a statement: what it writes to the resource of this item
 abbrev pub written_step : Frame → ℕ → Effect-F (Option Written) → Option Written
 written_step frame k (Effect-F.Block parts) = first_written parts
-written_step frame k (Effect-F.If at condition one other) = chosen at (made frame condition).tree (made frame condition).readings one (else_written other)
+written_step frame k (Effect-F.If at condition one other) = chosen at (condition_tree (made frame condition)) (made frame condition).readings one (else_written other)
 written_step frame k (Effect-F.Assign target parts value_at value) =
-    if nat_eq (target_number frame.setting target) k then Some (alone frame target (first_part frame target parts) value_at (made frame value)) else None
+    if nat_eq (target_number frame.setting target) k then Some (alone frame target (first_part frame parts) value_at (made frame value)) else None
 
 -- what a behaviour writes to a resource, if it writes it
 abbrev pub written : Frame → ℕ → Effect → Option Written

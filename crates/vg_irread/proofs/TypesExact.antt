@@ -71,7 +71,7 @@ found_bracketed role d first ts p rest b = record {
   same = made_is p.ty (tree.type_of b.written) (spot first.at) (spot (tree.start_of b.written)) p.leaves (tree.leaves_of b.written) b.ty_is b.at_is b.leaves_is;
 }
 
-type_sound : (role : Role) (w : Wanted) (d : ℕ) (ts : List Placed) (x : TypeAt) (rest : List Placed) → type_at w d ts ≡ reads (x, rest) → Found (a_type role) d ts x rest
+pub type_sound : (role : Role) (w : Wanted) (d : ℕ) (ts : List Placed) (x : TypeAt) (rest : List Placed) → type_at w d ts ≡ reads (x, rest) → Found (a_type role) d ts x rest
 type_sound role w d [] x rest h = leaves_not h
 type_sound role w d (t ∷ ts) x rest h = by_first (simple_type t.text) refl h
   where

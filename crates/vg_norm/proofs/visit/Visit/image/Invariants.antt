@@ -1,0 +1,15 @@
+use Rattle.std.proofs.Common.{ℕ, ◌+◌, ◌*◌, ◌⊎◌, length}
+use Rattle.vg_graph.specs.Node.{IsIn}
+use Rattle.vg_norm.specs.Images.{AreNodes, HasMoreImages, IsDone, IsVisit, closed}
+use Rattle.vg_norm.proofs.visit.Visit.image.Given as goal
+
+abbrev pub invariant-loop-n : goal.invariant-loop-n
+invariant-loop-n l = record {
+  visit : IsVisit l.g l.self;
+  more : HasMoreImages l.initial.self l.self;
+  nodes : AreNodes l.g l.stack.items;
+  found : IsDone l.self.images.items l.root ⊎ IsIn l.stack.items l.root;
+}
+
+abbrev pub decreases-loop-n : goal.decreases-loop-n
+decreases-loop-n l = 3 * closed l.self.opened.items + length l.stack.items
