@@ -1,8 +1,8 @@
 //! The program behind its command line: words, files and an output go in; a status comes out, and the output
 //! has the report, the refusal line or the line of usage.
 //!
-//! [`vadlgen`] is the one public call. `check D` reads the description in the file D, asks its rules of grammar, names,
-//! constants and sizes, and writes its name and how many instructions it has. `run D I N` reads the description in D and
+//! [`vadlgen`] is the one public call. `check D` reads the description in the file D, asks its rules, and writes its
+//! name and how many instructions it has. `run D I N` reads the description in D and
 //! the image in the file I, runs the image for at most N instructions, and writes how the run stands and the state. Any
 //! other words are usage.
 //!
