@@ -56,7 +56,7 @@ fn beyond(d: &Desc, setting: &Setting) -> Option<usize>
     first_beyond(setting)
 }
 
-/// The first rule that is broken, of a description whose items are in a table.
+/// The first rule that is broken, asked in a setting.
 fn asked(alloc: Global, table: &Table, setting: &Setting, plain: &Plain) -> Result<(), DescFault>
     requires folded { IsFolded plain.now.description plain.now }
     requires table { table.now.items.now ≡ plain.now.description.items }
@@ -95,6 +95,25 @@ fn asked(alloc: Global, table: &Table, setting: &Setting, plain: &Plain) -> Resu
     Ok(())
 }
 
+/// The first rule that is broken, of a description whose items are in a table.
+fn in_table(alloc: Global, table: &Table, plain: &Plain) -> Result<(), DescFault>
+    requires folded { IsFolded plain.now.description plain.now }
+    requires table { table.now.items.now ≡ plain.now.description.items }
+    ensures kept { IfOk result (λ _. breach_asked plain.now.description ≡ None) }
+    ensures fault { IfErr result (λ f. Tells (breach_asked plain.now.description) f) }
+{
+    let context = Context {
+        table,
+        worths: plain.worths.as_slice(),
+        aliases: plain.aliases.as_slice(),
+        bodies: plain.bodies.as_slice(),
+        keep: counts(),
+        parameters: &[],
+    };
+    let setting = Setting::new(&context);
+    asked(alloc, table, &setting, plain)
+}
+
 /// Asks the rules of types, ranges, formats, encodings, indices, the binary interface and stages, and the limits, in their
 /// order, of a description that keeps the rules of names, constants and the number of nodes. The first that is broken is
 /// told at its first place.
@@ -104,14 +123,5 @@ pub fn check(alloc: Global, plain: &Plain) -> Result<(), DescFault>
     ensures fault { IfErr result (λ f. Tells (breach_asked plain.now.description) f) }
 {
     let table = Table::new(alloc, plain.description.items.as_slice())?;
-    let context = Context {
-        table: &table,
-        worths: plain.worths.as_slice(),
-        aliases: plain.aliases.as_slice(),
-        bodies: plain.bodies.as_slice(),
-        keep: counts(),
-        parameters: &[],
-    };
-    let setting = Setting::new(&context);
-    asked(alloc, &table, &setting, plain)
+    in_table(alloc, &table, plain)
 }
