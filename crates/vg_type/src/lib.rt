@@ -17,8 +17,9 @@
 //! None where the list is empty. Neither needs memory.
 //!
 //! Each expression is judged once, and the size of an access that is written twice. A name costs a look-up in a hash
-//! table and as many steps as `let`s, fields or parameters stand before it. The recursion is as deep as expressions and
-//! statements; lists are gone through by loops.
+//! table, as many steps as `let`s, fields or parameters stand before it, and what it takes to work out the type that is
+//! declared for it; a call costs that for each parameter. The recursion is as deep as expressions and statements; lists
+//! are gone through by loops.
 //!
 //! Of `x[8..0] + 1` with `x : Bits<8>` the range of the slice is broken, at its `[`, and its type isn't asked for:
 //!
@@ -61,11 +62,12 @@ pub use finding::{find, named};
 pub use first_places::FirstPlaces;
 pub use judgement::Judgement;
 pub use judging::judged;
-pub use looking::global;
+pub use looking::{global, item_sort};
 pub use names::Names;
 pub use operator::{
-    binary_type, bytes_type, cast_type, join_type, operand_type, slice_type, unary_type,
+    binary_type, bytes_type, cast_type, choice_type, is_shift, join_type, operand_type, slice_type,
+    unary_type,
 };
 pub use setting::Setting;
-pub use sort::{Sort, common_type, sort_of_type};
+pub use sort::{Sort, common_type, sort_of_type, whole_or};
 pub use value_type::{ValueType, fits, same_type, type_of, width_of};

@@ -32,7 +32,7 @@ fn constant(text: &[char], context: &Context) -> Worth
 }
 
 /// What the name of an item is as a value.
-fn item_sort(item: Option<&Item>, context: &Context) -> Sort
+pub fn item_sort(item: Option<&Item>, context: &Context) -> Sort
     ensures { result ≡ item_sort_of (globals_in context.now) (option_copied item.entry) }
 {
     match item {

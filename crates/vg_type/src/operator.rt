@@ -35,7 +35,8 @@ pub fn unary_type(operator: UnaryOperator, operand: Sort) -> Option<ValueType>
     }
 }
 
-fn is_shift(operator: BinaryOperator) -> bool
+/// Whether an operator shifts its left operand by the right one.
+pub fn is_shift(operator: BinaryOperator) -> bool
     ensures { result ≡ is_shift operator }
 {
     match operator {
