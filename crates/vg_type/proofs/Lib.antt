@@ -4,3 +4,8 @@ pub mod SeekLemmas
 pub mod FieldLemmas
 pub mod CallLemmas
 pub mod JudgedLemmas
+pub mod MachineLemmas
+pub mod PlaceLemmas
+pub mod StatementLemmas
+pub mod SettingLemmas
+pub mod GoalLemmas

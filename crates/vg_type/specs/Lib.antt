@@ -10,3 +10,5 @@ pub mod Faults
 pub mod Statement
 pub mod Item
 pub mod Setting
+pub mod Machine
+pub mod FirstPlaces

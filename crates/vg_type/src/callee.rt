@@ -60,12 +60,19 @@ fn callee_of<'a>(item: Option<&'a Item>) -> Callee<'a>
     }
 }
 
+/// What is called by a name, where no inner name hides it.
+pub fn callee_named<'a>(text: &[char], context: &Context<'a>) -> Callee<'a>
+    ensures { signature_in context.now result ≡ (scope_in context.now).callee text.now }
+{
+    callee_of(context.table.item(text))
+}
+
 /// What is called by a name.
 pub fn called_by<'a>(text: &[char], names: &Names, context: &Context<'a>) -> Callee<'a>
     ensures { signature_in context.now result ≡ called (inner_of (sorts_of context.now names.now) text.now) ((scope_in context.now).callee text.now) }
 {
     match find(text, names, context) {
         Some(_) => Callee::Nothing,
-        None => callee_of(context.table.item(text)),
+        None => callee_named(text, context),
     }
 }

@@ -19,7 +19,7 @@ use vg_ast::Parameter;
 use vg_inline::Context;
 
 /// The type of the parameter of a number, if it has one.
-fn parameter_type(callee: &Callee, k: usize, context: &Context) -> Option<ValueType>
+pub fn parameter_type(callee: &Callee, k: usize, context: &Context) -> Option<ValueType>
     ensures { result ≡ type_at (signature_in context.now callee.now) k }
 {
     match callee {
@@ -49,7 +49,8 @@ fn parameter_count(callee: &Callee) -> usize
     }
 }
 
-fn gives(callee: &Callee, context: &Context) -> Option<ValueType>
+/// The type of what is given.
+pub fn gives(callee: &Callee, context: &Context) -> Option<ValueType>
     ensures { result ≡ gives_type (signature_in context.now callee.now) }
 {
     match callee {

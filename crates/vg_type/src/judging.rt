@@ -28,7 +28,7 @@ use vg_ast::{BitsKind, Expr, Item, Name, TypeExpr};
 use vg_inline::{Declared, declared_type};
 
 /// Whether a name is that of a memory of bytes.
-fn is_memory(text: &[char], setting: &Setting) -> bool
+pub fn is_memory(text: &[char], setting: &Setting) -> bool
     ensures { result ≡ (scope_in setting.now.context.now).is_memory text.now }
 {
     match setting.context.table.item(text) {
@@ -41,7 +41,7 @@ fn is_memory(text: &[char], setting: &Setting) -> bool
 }
 
 /// The type of addresses.
-fn address_of(setting: &Setting) -> Option<ValueType>
+pub fn address_of(setting: &Setting) -> Option<ValueType>
     ensures { result ≡ (scope_in setting.now.context.now).address }
 {
     address_type(setting.width)
@@ -171,7 +171,7 @@ pub fn judged(e: &Expr, names: &Names, setting: &Setting) -> Judgement
 
 /// What is found of the type of a cast.
 #[cycle(judged)]
-fn written(target: &TypeExpr<Boxed<Expr>>, names: &Names, setting: &Setting) -> Written
+pub fn written(target: &TypeExpr<Boxed<Expr>>, names: &Names, setting: &Setting) -> Written
     ensures { result ≡ written_over (scope_in setting.now.context.now).aliases (type_over (λ e. judged_of (scope_in setting.now.context.now) e (sorts_of setting.now.context.now names.now)) target.now) }
 {
     match target {
