@@ -1,6 +1,6 @@
 -- The rules of the application binary interface.
 use Rattle.std.specs.Prelude.{ℕ, ◌%◌, ◌/◌, ◌^◌, Bool, true, false, ◌&&◌, not, nat_eq, nat_le, nat_lt, List, [], ◌∷◌, ◌++◌, map, flat_map, length, Option, Some, None}
-use Rattle.std.specs.List.{list_all, list_any}
+use Rattle.std.specs.List.{list_all, list_any, range_with_len}
 use Rattle.std.specs.Str.{bytes_eq}
 use Rattle.vg_ast.specs.declared.expr.Expr.{Expr}
 use Rattle.vg_ast.specs.declared.item.Item.{Item}
@@ -52,7 +52,7 @@ stand_once front = all_differ nat_eq (map role_number front)
 
 -- all nine stand there
 abbrev pub are_complete : List Role → Bool
-are_complete front = list_all (λ k. list_any (λ (role : Role). nat_eq (role_number role) k) front) (0 ∷ 1 ∷ 2 ∷ 3 ∷ 4 ∷ 5 ∷ 6 ∷ 7 ∷ 8 ∷ [])
+are_complete front = list_all (λ k. list_any (λ (role : Role). nat_eq (role_number role) k) front) (range_with_len 0 9)
 
 -- ---- registers
 

@@ -16,14 +16,20 @@
 //! names bit 8 again.
 #![tactic(auto)]
 
+mod abi_part;
+mod abi_register;
+mod abi_role;
 mod counts;
 mod field_cover;
+mod field_value;
 mod laws;
 mod limit;
 mod mask;
 mod number;
 mod span;
 
+pub use abi_role::first_abi_break;
 pub use field_cover::first_uncovered;
+pub use field_value::first_unfit;
 pub use laws::one_answer;
 pub use limit::first_beyond;
