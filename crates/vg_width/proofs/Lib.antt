@@ -2,4 +2,5 @@ pub mod TypedLemmas
 pub mod TypedNodes
 pub mod TypedTrees
 mod MadeLemmas
-mod ResourceLemmas
+pub mod ResourceLemmas
+mod FormatLemmas
