@@ -21,3 +21,5 @@ pub mod EncodingLemmas
 pub mod DifferLemmas
 pub mod AbiLemmas
 pub mod NarrowLemmas
+pub mod ResourceLemmas
+mod FormatLemmas
