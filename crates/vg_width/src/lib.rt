@@ -77,7 +77,6 @@ pub use made::Made;
 pub use making::make;
 pub use reading::Reading;
 pub use resource::Resource;
-pub use resources::work_out_resources;
 pub use resources::{work_out_machine, work_out_resources};
 pub use stage_order::first_stage_break;
 pub use writing::written_to;
