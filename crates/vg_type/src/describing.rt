@@ -84,7 +84,7 @@ fn file(
     )
 }
 
-/// The fields of the format of a name.
+/// The inner names of instructions of the format of a name: its fields.
 #[tactic(auto, using(crate::proofs::SettingLemmas::fields_missing, crate::proofs::SettingLemmas::fields_found))]
 pub fn fields_in(format: &Name, setting: &Setting) -> Names<'static>
     ensures { let x = setting.now.context.now in sorts_of x result ≡ field_sorts (constants_in x) (item_named (items_of x) format.now.text) }

@@ -17,8 +17,9 @@
 //! None where the list is empty. Neither needs memory.
 //!
 //! Each expression is judged once, and the size of an access that is written twice. A name costs a look-up in a hash
-//! table and as many steps as `let`s, fields or parameters stand before it. The recursion is as deep as expressions and
-//! statements; lists are gone through by loops.
+//! table, as many steps as `let`s, fields or parameters stand before it, and what it takes to work out the type that is
+//! declared for it; a call costs that for each parameter. The recursion is as deep as expressions and statements; lists
+//! are gone through by loops.
 //!
 //! Of `x[8..0] + 1` with `x : Bits<8>` the range of the slice is broken, at its `[`, and its type isn't asked for:
 //!

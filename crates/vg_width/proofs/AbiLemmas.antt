@@ -1,6 +1,6 @@
 -- The rules of the binary interface, put together.
-use Rattle.std.proofs.Common.{◌≡◌, ℕ, ◌+◌, ◌^◌, ◌<◌, ◌≤◌, Bool, true, false, not, ◌&&◌, ◌||◌, nat_eq, nat_lt, List, [], ◌∷◌, ◌++◌, append_assoc, length, take, drop, get_or, map, flat_map, Option, Some, None, refl, ap, sym, ◌∙◌, arith}
-use Rattle.std.specs.List.{list_all, list_any, range_with_len}
+use Rattle.std.proofs.Common.{◌≡◌, ℕ, ◌+◌, ◌^◌, ◌<◌, ◌≤◌, Bool, true, false, not, ◌&&◌, ◌||◌, nat_eq, nat_lt, List, [], ◌∷◌, ◌++◌, length, take, drop, get_or, map, Some, refl, ap, sym, ◌∙◌, arith}
+use Rattle.std.specs.List.{list_all, list_any}
 use Rattle.std.proofs.lemmas.Bool.{false_from_ne_true, true≢false}
 use Rattle.std.proofs.lemmas.Bool.Decides.{nat_tests}
 use Rattle.std.proofs.lemmas.List.{take_more}
@@ -12,7 +12,7 @@ use Rattle.vg_type.specs.Item.{Setting}
 use Rattle.vg_type.specs.Judged.{told}
 use Rattle.vg_type.specs.Scope.{address_width}
 use Rattle.vg_width.specs.FieldCover.{width_or}
-use Rattle.vg_width.specs.AbiRole.{are_complete, are_kept, are_of_one_file, broken_roles, is_good, is_rising, layout_of, role_number, role_start, same_file, code_base, data_base, stack_ends}
+use Rattle.vg_width.specs.AbiRole.{are_complete, are_kept, are_of_one_file, broken_roles, is_good, is_rising, layout_of, role_number, role_start, same_file}
 use Rattle.vg_width.specs.AbiPart.{are_below, bases_of}
 use Rattle.vg_width.specs.Registers.{first_register, is_right}
 use Rattle.vg_width.proofs.MaskLemmas.{all_below, each_below}

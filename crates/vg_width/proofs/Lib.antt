@@ -22,3 +22,5 @@ pub mod SameLemmas
 pub mod EncodingLemmas
 pub mod DifferLemmas
 pub mod AbiLemmas
+pub mod ResourceLemmas
+mod FormatLemmas

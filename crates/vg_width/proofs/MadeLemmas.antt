@@ -1,17 +1,15 @@
 -- One level of what stands for a tree, and numbers that are small where there is a type.
-use Rattle.std.proofs.Common.{◌≡◌, ℕ, ◌+◌, ◌*◌, ◌-◌, ◌<◌, ◌≤◌, Bool, true, false, ◌&&◌, ◌||◌, not, nat_eq, nat_le, nat_lt, List, map, Option, Some, None, refl, sym, ap, ◌∙◌, arith, if◌then◌else◌}
+use Rattle.std.proofs.Common.{◌≡◌, ℕ, ◌+◌, ◌*◌, ◌-◌, ◌<◌, ◌≤◌, Bool, true, false, ◌&&◌, ◌||◌, not, nat_le, nat_lt, List, map, Some, None, refl, sym, ap, ◌∙◌, arith, if◌then◌else◌}
 use Rattle.std.specs.Prelude.{[], ◌∷◌, get_or, length}
 use Rattle.std.proofs.lemmas.Bool.Decides.{nat_tests}
 use Rattle.std.proofs.lemmas.List.{length-map}
 use Rattle.vg_ast.specs.declared.type_expr.BitsKind.{BitsKind}
-use Rattle.vg_whole.specs.declared.worth.Worth.{Worth}
 use Rattle.vg_whole.specs.declared.worth.Worth.TheVariants as worths
 use Rattle.vg_inline.specs.declared.declared.Declared.{Declared}
 use Rattle.vg_inline.specs.declared.declared.Declared.TheVariants as declared
 use Rattle.vg_inline.specs.declared.tree.Tree.{Tree, fold-roll-Tree, roll-out-Tree, out-Tree}
 use Rattle.vg_type.specs.declared.value_type.ValueType.{ValueType}
 use Rattle.vg_type.specs.declared.value_type.ValueType.TheVariants.{Sized, Bool as BoolType}
-use Rattle.vg_type.specs.declared.sort.Sort.{Sort}
 use Rattle.vg_type.specs.declared.sort.Sort.TheVariants as sorts
 use Rattle.vg_type.specs.ValueType.{type_of, width_of, bits_type}
 use Rattle.vg_type.specs.Operator.{slice_type, bytes_type}

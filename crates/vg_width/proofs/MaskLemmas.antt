@@ -1,5 +1,5 @@
 -- Numbers as sets of the bits that spans name.
-use Rattle.std.proofs.Common.{◌≡◌, ℕ, suc, ◌+◌, ◌-◌, ◌*◌, ◌%◌, ◌^◌, ◌<◌, ◌≤◌, ◌≢◌, min, max, bit_and, bit_or, Bool, true, false, not, cond, ◌&&◌, ◌||◌, ◌⊎◌, inl, inr, nat_le, nat_lt, nat_eq, List, [], ◌∷◌, ◌++◌, length, get_or, refl, ap, sym, subst, ◌∙◌, arith}
+use Rattle.std.proofs.Common.{◌≡◌, ℕ, ◌+◌, ◌-◌, ◌*◌, ◌%◌, ◌^◌, ◌<◌, ◌≤◌, min, max, bit_and, bit_or, Bool, true, false, not, ◌&&◌, ◌||◌, ◌⊎◌, inl, inr, nat_le, nat_lt, nat_eq, List, [], ◌∷◌, ◌++◌, length, get_or, refl, ap, sym, subst, ◌∙◌, arith}
 use Rattle.std.specs.Int.{bit_at, trailing_zeros, w128}
 use Rattle.std.specs.List.{list_all, list_any, range_with_len}
 use Rattle.std.proofs.Math.Nat.{mod-eq_of_lt, one-le-pow}
@@ -8,7 +8,7 @@ use Rattle.std.proofs.lemmas.Nat.{or_lt, and_le_l, pow_below}
 use Rattle.std.proofs.lemmas.Nat.Bits.{bit_at_or, bit_at_and, bit_at-zero, bit_at_mask_inside, bit_at_mask_below, bit_at_mask_above, bit_at_above, bit_at_ones, bit_at-trailing_zeros, same_from_bits_below}
 use Rattle.std.proofs.lemmas.List.FromFn.{length-range_with_len, get_or-range_with_len}
 use Rattle.std.proofs.lemmas.List.Sums.{list_all-from_AllPass}
-use Rattle.std.proofs.lemmas.Bool.{eq-eqb, ne_eqb, not_from_false, true_from_ne_false, and_from, and_parts, or_cases, or_left, or_right, leb-true, le-leb, lt-leb, false_from_ne_true, true≢false, both_ways, cases_lt}
+use Rattle.std.proofs.lemmas.Bool.{eq-eqb, ne_eqb, not_from_false, true_from_ne_false, and_from, and_parts, or_cases, or_left, or_right, leb-true, true≢false, both_ways, cases_lt}
 use Rattle.std.proofs.lemmas.Bool.Decides.{nat_tests}
 use Rattle.std.proofs.lemmas.List.Folds.{list_all-append, list_any-append, list_all_at}
 use Rattle.vg_width.specs.declared.span.Span.{Span}
@@ -43,12 +43,12 @@ nothing_named w = record { below = one-le-pow w 2 (omega arith); bits = λ b h. 
 
 pub both_named : (w m n : ℕ) (xs ys : List Span) → Names w m xs → Names w n ys → Names w (bit_or m n) (xs ++ ys)
 both_named w m n xs ys h k = record {
-    below = or_lt w m n h.below k.below;
-    bits = λ b l.
-        bit_at_or m n b ∙ ap (λ (x : ℕ). max x (bit_at n b)) (h.bits b l) ∙ ap (max (bit_if (list_any (names_bit b) xs))) (k.bits b l)
-        ∙ bit_if_or (list_any (names_bit b) xs) (list_any (names_bit b) ys) ∙ ap bit_if (sym (list_any-append (names_bit b) xs ys));
-    sorted = list_all-append is_span xs ys ∙ and_from (list_all is_span xs) (list_all is_span ys) h.sorted k.sorted;
-  }
+  below = or_lt w m n h.below k.below;
+  bits = λ b l.
+      bit_at_or m n b ∙ ap (λ (x : ℕ). max x (bit_at n b)) (h.bits b l) ∙ ap (max (bit_if (list_any (names_bit b) xs))) (k.bits b l)
+      ∙ bit_if_or (list_any (names_bit b) xs) (list_any (names_bit b) ys) ∙ ap bit_if (sym (list_any-append (names_bit b) xs ys));
+  sorted = list_all-append is_span xs ys ∙ and_from (list_all is_span xs) (list_all is_span ys) h.sorted k.sorted;
+}
 
 or_comm : (s t : Bool) → (s || t) ≡ (t || s)
 or_comm true true = refl
@@ -59,13 +59,13 @@ or_comm false false = refl
 -- the order of spans means nothing
 pub turned : (w m : ℕ) (xs ys : List Span) → Names w m (xs ++ ys) → Names w m (ys ++ xs)
 turned w m xs ys h = record {
-    below = h.below;
-    bits = λ b l.
-        h.bits b l ∙ ap bit_if (list_any-append (names_bit b) xs ys ∙ or_comm (list_any (names_bit b) xs) (list_any (names_bit b) ys) ∙ sym (list_any-append (names_bit b) ys xs));
-    sorted =
-        let parts = and_parts (list_all is_span xs) (list_all is_span ys) (sym (list_all-append is_span xs ys) ∙ h.sorted) in
-        list_all-append is_span ys xs ∙ and_from (list_all is_span ys) (list_all is_span xs) parts.1 parts.0;
-  }
+  below = h.below;
+  bits = λ b l.
+      h.bits b l ∙ ap bit_if (list_any-append (names_bit b) xs ys ∙ or_comm (list_any (names_bit b) xs) (list_any (names_bit b) ys) ∙ sym (list_any-append (names_bit b) ys xs));
+  sorted =
+      let parts = and_parts (list_all is_span xs) (list_all is_span ys) (sym (list_all-append is_span xs ys) ∙ h.sorted) in
+      list_all-append is_span ys xs ∙ and_from (list_all is_span ys) (list_all is_span xs) parts.1 parts.0;
+}
 
 -- ---- one span
 
@@ -82,10 +82,10 @@ outside w b s h l = grind (arith, nat_tests, h, l)
 
 pub above_named : (w : ℕ) (s : Span) → is_span s ≡ true → w ≤ s.low → Names w 0 (s ∷ [])
 above_named w s e h = record {
-    below = one-le-pow w 2 (omega arith);
-    bits = λ b l. bit_at-zero b ∙ sym (ap bit_if (or_nothing (names_bit b s) ∙ outside w b s h l));
-    sorted = and_all (is_span s) ∙ e;
-  }
+  below = one-le-pow w 2 (omega arith);
+  bits = λ b l. bit_at-zero b ∙ sym (ap bit_if (or_nothing (names_bit b s) ∙ outside w b s h l));
+  sorted = and_all (is_span s) ∙ e;
+}
 
 -- a run of ones
 ones_at : (low above b : ℕ) → bit_at (2 ^ above - 2 ^ low) b ≡ bit_if (nat_le low b && nat_lt b above)
@@ -101,14 +101,14 @@ same_bits w b s k e l = grind (arith, nat_tests, e, l)
 
 pub span_named : (w : ℕ) (s : Span) (k : ℕ) → is_span s ≡ true → s.low < w → k ≡ min s.high (w - 1) → Names w (2 ^ (k + 1) - 2 ^ s.low) (s ∷ [])
 span_named w s k e h is = record {
-    below =
-        let most : 2 ^ (k + 1) ≤ 2 ^ w = pow_mono (omega arith) in
-        let one : 1 ≤ 2 ^ s.low = one-le-pow s.low 2 (omega arith) in
-        let some : 1 ≤ 2 ^ w = one-le-pow w 2 (omega arith) in
-        omega arith;
-    bits = λ b l. ones_at s.low (k + 1) b ∙ ap bit_if (same_bits w b s k is l ∙ sym (or_nothing (names_bit b s)));
-    sorted = and_all (is_span s) ∙ e;
-  }
+  below =
+      let most : 2 ^ (k + 1) ≤ 2 ^ w = pow_mono (omega arith) in
+      let one : 1 ≤ 2 ^ s.low = one-le-pow s.low 2 (omega arith) in
+      let some : 1 ≤ 2 ^ w = one-le-pow w 2 (omega arith) in
+      omega arith;
+  bits = λ b l. ones_at s.low (k + 1) b ∙ ap bit_if (same_bits w b s k is l ∙ sym (or_nothing (names_bit b s)));
+  sorted = and_all (is_span s) ∙ e;
+}
 
 -- as the code computes it
 pub mask_is : (k low : ℕ) → k ≤ 64 → low ≤ 64 → 1 * 2 ^ k % 340282366920938463463374607431768211456 - 1 * 2 ^ low % 340282366920938463463374607431768211456 ≡ 2 ^ k - 2 ^ low

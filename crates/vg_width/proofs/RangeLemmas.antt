@@ -1,11 +1,11 @@
 -- Ranges one behind the other.
-use Rattle.std.proofs.Common.{◌≡◌, ℕ, ◌+◌, ◌<◌, ◌≤◌, Bool, true, false, ◌||◌, nat_le, bit_or, List, [], ◌∷◌, ◌++◌, append_assoc, length, drop, get_or, map, refl, ap, sym, subst, ◌∙◌, if◌then◌else◌}
+use Rattle.std.proofs.Common.{◌≡◌, ℕ, ◌+◌, ◌<◌, true, false, ◌||◌, nat_le, bit_or, List, [], ◌∷◌, ◌++◌, append_assoc, length, drop, get_or, map, refl, ap, sym, subst, ◌∙◌}
 use Rattle.std.specs.List.{list_any}
-use Rattle.std.proofs.lemmas.List.{at_drop_more, at_drop_all}
-use Rattle.std.proofs.lemmas.Bool.{or_left, or_from}
+use Rattle.std.proofs.lemmas.List.{at_drop_more}
+use Rattle.std.proofs.lemmas.Bool.{or_left}
 use Rattle.vg_width.specs.declared.span.Span.{Span}
 use Rattle.vg_width.specs.FieldCover.{is_wrong_field, is_wrong_range, meet, named_behind, runs_upwards, span}
-use Rattle.vg_width.specs.Mask.{Names, is_span}
+use Rattle.vg_width.specs.Mask.{Names}
 use Rattle.vg_width.proofs.MaskLemmas.{both_named, turned}
 
 pub rest_is : {X : Type 0} (xs : List X) (i : ℕ) (x : X) → i < length xs → x ≡ get_or xs i x → drop i xs ≡ x ∷ drop (i + 1) xs

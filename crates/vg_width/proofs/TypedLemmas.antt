@@ -1,32 +1,19 @@
 -- Trees that stand for expressions have the widths of their types.
-use Rattle.std.proofs.Common.{◌≡◌, ℕ, ◌+◌, ◌*◌, ◌-◌, ◌%◌, ◌^◌, ◌<◌, ◌≤◌, Bool, true, false, ◌&&◌, ◌||◌, not, nat_eq, nat_le, nat_lt, List, [], ◌∷◌, ◌++◌, map, Option, Some, None, refl, sym, ap, subst, ◌∙◌, arith, if◌then◌else◌}
+use Rattle.std.proofs.Common.{◌≡◌, ℕ, ◌%◌, ◌^◌, ◌<◌, Bool, true, false, ◌&&◌, nat_eq, nat_lt, List, Option, Some, None, refl, sym, ap, ◌∙◌, arith, if◌then◌else◌}
 use Rattle.std.proofs.lemmas.Bool.Decides.{nat_tests}
 use Rattle.std.proofs.lemmas.Nat.{pow_pos}
-use Rattle.vg_ast.specs.declared.operator.UnaryOperator.{UnaryOperator}
-use Rattle.vg_ast.specs.declared.operator.UnaryOperator.TheVariants as unary
-use Rattle.vg_ast.specs.declared.operator.BinaryOperator.{BinaryOperator}
-use Rattle.vg_ast.specs.declared.operator.BinaryOperator.TheVariants as binary
-use Rattle.vg_ast.specs.declared.type_expr.BitsKind.{BitsKind}
-use Rattle.vg_ast.specs.declared.type_expr.BitsKind.TheVariants as kinds
-use Rattle.vg_whole.specs.declared.worth.Worth.{Worth}
-use Rattle.vg_whole.specs.declared.worth.Worth.TheVariants as worths
 use Rattle.vg_isa.specs.declared.isa.Parts.{Parts}
 use Rattle.vg_isa.specs.declared.expr.Expr.{Expr}
-use Rattle.vg_isa.specs.declared.expr.Expr.TheOpen.{Expr-F}
 use Rattle.vg_isa.specs.declared.expr.Expr.TheVariants as exprs
-use Rattle.vg_isa.specs.declared.operator.UnOp.TheVariants as unop
-use Rattle.vg_isa.specs.declared.operator.BinOp.{BinOp}
-use Rattle.vg_isa.specs.declared.operator.BinOp.TheVariants as binop
-use Rattle.vg_isa.specs.Typing.{Typing, typing_step, typing_of, binary_width, binary_fits, cast_fits}
-use Rattle.vg_isa.proofs.TypingLemmas.{typing-Const, typing-Reg, typing-Mem, typing-Unary, typing-Binary, typing-Cast, typing-Slice, typing-Join, typing-If}
+use Rattle.vg_isa.specs.Typing.{Typing, typing_of}
+use Rattle.vg_isa.proofs.TypingLemmas.{typing-Const}
 use Rattle.vg_type.specs.declared.value_type.ValueType.{ValueType}
 use Rattle.vg_type.specs.declared.value_type.ValueType.TheVariants.{Sized, Bool as BoolType}
 use Rattle.vg_type.specs.declared.sort.Sort.{Sort}
 use Rattle.vg_type.specs.declared.sort.Sort.TheVariants as sorts
-use Rattle.vg_type.specs.ValueType.{is_width, width_of, bits_type, sized_type, same_kind, same_type, common_type}
-use Rattle.vg_width.specs.declared.made.Made.{Made}
+use Rattle.vg_type.specs.ValueType.{is_width, width_of, same_kind, same_type}
 use Rattle.vg_width.specs.declared.reading.Reading.{Reading}
-use Rattle.vg_width.specs.Made.{no_tree, constant, taken, placed, made_of}
+use Rattle.vg_width.specs.Made.{no_tree, constant, taken, made_of}
 use Rattle.vg_width.specs.TypedMade.{typed, IsTreeOf, sort_width, IsTypedMade}
 
 pub some_equal : {A : Type 0} (a b : A) → Some a ≡ Some b → a ≡ b

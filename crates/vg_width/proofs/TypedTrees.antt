@@ -1,7 +1,6 @@
 -- All that stands for trees is typed.
-use Rattle.std.proofs.Common.{◌≡◌, ℕ, ◌+◌, ◌*◌, ◌-◌, ◌<◌, ◌≤◌, Bool, true, false, ◌&&◌, ◌||◌, not, nat_eq, nat_le, nat_lt, List, [], ◌∷◌, ◌++◌, map, Option, Some, None, refl, sym, ap, subst, ◌∙◌, arith, if◌then◌else◌}
+use Rattle.std.proofs.Common.{◌≡◌, ℕ, ◌*◌, Bool, true, false, ◌&&◌, nat_eq, nat_le, nat_lt, List, [], ◌∷◌, ◌++◌, map, Option, Some, None, refl, sym, ap, subst, ◌∙◌, arith, if◌then◌else◌}
 use Rattle.std.proofs.lemmas.Bool.Decides.{nat_tests}
-use Rattle.vg_ast.specs.declared.type_expr.BitsKind.{BitsKind}
 use Rattle.vg_ast.specs.declared.type_expr.BitsKind.TheVariants as kinds
 use Rattle.vg_whole.specs.declared.worth.Worth.{Worth}
 use Rattle.vg_whole.specs.declared.worth.Worth.TheVariants as worths
@@ -14,7 +13,6 @@ use Rattle.vg_isa.specs.declared.isa.Parts.{Parts}
 use Rattle.vg_isa.specs.declared.expr.Expr.{Expr}
 use Rattle.vg_isa.specs.declared.expr.Expr.TheOpen.{Expr-F}
 use Rattle.vg_isa.specs.declared.expr.Expr.TheVariants as exprs
-use Rattle.vg_isa.specs.declared.operator.CastOp.{CastOp}
 use Rattle.vg_isa.specs.declared.operator.CastOp.TheVariants as castop
 use Rattle.vg_isa.specs.Declaration.{is_file, register_width}
 use Rattle.vg_isa.specs.Typing.{Typing, typing_step, typing_of, cast_fits}
@@ -29,11 +27,11 @@ use Rattle.vg_width.specs.FieldCover.{value_or}
 use Rattle.vg_width.specs.declared.made.Made.{Made}
 use Rattle.vg_width.specs.declared.resource.Resource.{Resource}
 use Rattle.vg_width.specs.Resource.{resource_at, typed_sort}
-use Rattle.vg_width.specs.Made.{Frame, no_tree, constant, taken, placed, at_place, made_of, nothing_made, whole_made, worth_given, constant_made, field_sort_at, field_tree, resource_tree, resource_made, indexed_made, address_in, access_made, reading_of, is_signed, extension, cast_operator, cast_tree, cast_made, leaf_made, over_one, over_two, over_three, node_made, made_step, made}
-use Rattle.vg_width.specs.TypedMade.{typed, IsTreeOf, sort_width, IsTypedMade, IsFileOf, IsFrameOf}
+use Rattle.vg_width.specs.Made.{Frame, constant, taken, placed, at_place, made_of, nothing_made, whole_made, worth_given, constant_made, field_sort_at, field_tree, resource_tree, resource_made, indexed_made, address_in, access_made, reading_of, is_signed, extension, cast_operator, cast_tree, cast_made, leaf_made, over_one, over_two, over_three, node_made, made_step, made}
+use Rattle.vg_width.specs.TypedMade.{typed, sort_width, IsTypedMade, IsFrameOf}
 use Rattle.vg_width.proofs.MadeLemmas.{wide_declared}
-use Rattle.vg_width.proofs.TypedLemmas.{some_equal, both_true, typing-no_tree, typing-constant, typing-taken, Gives, typed-made_of}
-use Rattle.vg_width.proofs.TypedNodes.{equal, at_type, no_type, typed-unary, typed-binary, typed-slice, typed-join, typed-choice}
+use Rattle.vg_width.proofs.TypedLemmas.{typing-no_tree, typing-constant, typing-taken, Gives, typed-made_of}
+use Rattle.vg_width.proofs.TypedNodes.{at_type, no_type, typed-unary, typed-binary, typed-slice, typed-join, typed-choice}
 
 module _ (d : Parts) where
   typed-nothing : IsTypedMade d nothing_made

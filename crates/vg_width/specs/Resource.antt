@@ -9,6 +9,7 @@ use Rattle.vg_type.specs.declared.sort.Sort.TheVariants as sorts
 use Rattle.vg_type.specs.Expression.{Signature}
 use Rattle.vg_type.specs.Scope.{item_sort, signature_of}
 use Rattle.vg_type.specs.Item.{Setting, index_type}
+use Rattle.vg_isa.specs.declared.ids.FormatId.{FormatId}
 use Rattle.vg_isa.specs.declared.ids.ResourceId.{ResourceId}
 use Rattle.vg_isa.specs.declared.ids.ResourceId.TheVariants.{Memory, Reg}
 use Rattle.vg_width.specs.declared.resource.Resource.{Resource}
@@ -50,6 +51,16 @@ register_id all k = count_before is_register k all
 
 abbrev pub format_id : List Item → ℕ → ℕ
 format_id all k = count_before is_format k all
+
+abbrev pub with_format : ℕ → Item → ℕ
+with_format formats item = if is_format item then formats + 1 else formats
+
+abbrev pub format_numbered : List Item → ℕ → FormatId
+format_numbered all k = record { 0 = format_id all k }
+
+-- how many formats stand in front of each item
+abbrev pub formats_of : List Item → List FormatId
+formats_of all = map (format_numbered all) (range_with_len 0 (length all))
 
 -- the memory, or the register that an item declares
 abbrev pub resource_id : List Item → ℕ → ResourceId

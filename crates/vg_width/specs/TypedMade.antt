@@ -1,5 +1,5 @@
 -- Trees that stand for expressions have the widths of their types.
-use Rattle.std.specs.Prelude.{◌≡◌, ℕ, Bool, true, Some}
+use Rattle.std.specs.Prelude.{◌≡◌, ℕ, true, Some}
 use Rattle.vg_isa.specs.declared.isa.Parts.{Parts}
 use Rattle.vg_isa.specs.declared.expr.Expr.{Expr}
 use Rattle.vg_isa.specs.Declaration.{is_file, register_width}

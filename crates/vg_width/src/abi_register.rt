@@ -144,7 +144,11 @@ pub fn are_good(roles: &[Role], setting: &Setting) -> bool
 }
 
 /// Puts the indices of registers behind these.
-fn push_all(all: &mut Vec<u128>, registers: &[Register], setting: &Setting) -> Result<(), AllocError>
+fn push_all(
+    all: &mut Vec<u128>,
+    registers: &[Register],
+    setting: &Setting,
+) -> Result<(), AllocError>
     ensures { OnOk result (all.new.items ≡ all.old.items ++ map (index_in (setting_in setting.now.context.now)) registers.now) }
 {
     for register in registers {
@@ -172,9 +176,10 @@ fn push_role(
             Ok(())
         }
         (Registers::Arguments, Role::Arguments { registers, .. })
-        | (Registers::Others, Role::Temporaries { registers, .. } | Role::Saved { registers, .. }) => {
-            push_all(all, registers.as_slice(), setting)
-        }
+        | (
+            Registers::Others,
+            Role::Temporaries { registers, .. } | Role::Saved { registers, .. },
+        ) => { push_all(all, registers.as_slice(), setting) }
         _ => Ok(()),
     }
 }

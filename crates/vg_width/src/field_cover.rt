@@ -123,12 +123,7 @@ fn are_all_named(fields: &[Field], width: u128, context: &Context) -> bool
 }
 
 /// A format's name, where a bit has no field, or else its first field that is wrong.
-fn format_uncovered(
-    name: &Name,
-    width: u128,
-    fields: &[Field],
-    context: &Context,
-) -> Option<usize>
+fn format_uncovered(name: &Name, width: u128, fields: &[Field], context: &Context) -> Option<usize>
     requires { width ≤ 64 }
     ensures { result ≡ first_of (format_covers (constants_in context.now) width name.now.at fields.now) }
 {

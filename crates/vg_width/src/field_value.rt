@@ -83,11 +83,7 @@ fn fields_encoded(instruction: &Name, setting: &Setting) -> Names<'static>
     }
 }
 
-fn item_unfit(
-    alloc: Global,
-    item: &Item,
-    setting: &Setting,
-) -> Result<Option<usize>, AllocError>
+fn item_unfit(alloc: Global, item: &Item, setting: &Setting) -> Result<Option<usize>, AllocError>
     ensures { IfOk result (λ found. found ≡ first_of (item_values (setting_in setting.now.context.now) item.now)) }
 {
     match item {

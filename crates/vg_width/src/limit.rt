@@ -13,13 +13,19 @@ use vg_ast::{Expr, Item, TypeExpr};
 use vg_inline::declared_type;
 use vg_type::{Setting, width_in};
 
-/// The most instructions, formats and resources of a description, and the widest index of a register file.
+/// The most instructions of a description.
 const MOST_INSTRUCTIONS: usize = 512;
+
+/// The most formats.
 const MOST_FORMATS: usize = 64;
+
+/// The most of memory, registers and register files together.
 const MOST_RESOURCES: usize = 16;
+
+/// The most bits of an index of a register file.
 const WIDEST_INDEX: u128 = 6;
 
-/// The place of the name that an item defines, or that of an instruction which it is for.
+/// The place of the name of an item, or of the instruction that it is for.
 fn name_place(item: &Item) -> usize
     ensures { result ≡ place_of_name item.now }
 {

@@ -9,6 +9,8 @@ ghost use Rattle.vg_type.specs.Setting.{globals_in};
 ghost use Rattle.vg_type.specs.Setting.{setting_in};
 ghost use Rattle.vg_width.specs.Resource.{is_counter as is_counter_item, is_register as is_register_item, resource_of as resource_by, resources_of, result_type, typed_sort as type_in_sort, with_register};
 
+use crate::formats::{memory_number, work_out_formats};
+use crate::machine::Machine;
 use crate::operators::typed_sort;
 use crate::resource::Resource;
 use sqlite_items::Items;
@@ -111,4 +113,21 @@ pub fn work_out_resources(alloc: Global, setting: &Setting) -> Result<Items<Reso
         registers = counted(item, registers)?;
     }
     Ok(resources)
+}
+
+/// The items of a setting, numbered, unless memory ends.
+pub fn work_out_machine<'a>(
+    alloc: Global,
+    setting: &'a Setting<'a>,
+) -> Result<Machine<'a>, AllocError>
+    ensures { IfOk result (λ machine. machine.setting.now ≡ setting.now) }
+{
+    let resources = work_out_resources(alloc, setting)?;
+    let formats = work_out_formats(alloc, setting.context.table.items)?;
+    Ok(Machine {
+        setting,
+        resources,
+        formats,
+        memory: memory_number(setting.context.table.items),
+    })
 }

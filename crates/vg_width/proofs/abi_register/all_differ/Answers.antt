@@ -1,4 +1,4 @@
-use Rattle.std.proofs.Common.{◌≡◌, ℕ, ◌+◌, ◌<◌, Bool, true, false, not, nat_eq, List, ◌∷◌, [], ◌++◌, length, get_or, drop, sym, ap, refl, ◌∙◌, if◌then◌else◌}
+use Rattle.std.proofs.Common.{◌≡◌, ℕ, ◌+◌, Bool, true, false, not, nat_eq, List, ◌∷◌, [], ◌++◌, get_or, drop, sym, ap, refl, ◌∙◌, if◌then◌else◌}
 use Rattle.std.specs.List.{list_any}
 use Rattle.std.proofs.lemmas.List.{at_drop_more, at_drop_all}
 use Rattle.vg_width.proofs.DifferLemmas.{behind_none, differ_behind, differ_end, differ_met, differ_new}

@@ -1,4 +1,4 @@
-use Rattle.std.proofs.Common.{◌≡◌, ◌++◌, drop, map, flat_map, nat_eq, nat_lt, not}
+use Rattle.std.proofs.Common.{◌≡◌, drop, nat_eq}
 use Rattle.vg_width.proofs.DifferLemmas.{differ_behind}
 use Rattle.vg_isa.specs.Same.{all_differ}
 use Rattle.vg_width.proofs.abi_register.all_differ.Given as goal

@@ -1,5 +1,5 @@
-use Rattle.std.proofs.Common.{◌≡◌, ◌++◌, drop, map, flat_map, nat_eq, nat_lt, not}
-use Rattle.std.specs.List.{list_all, list_any}
+use Rattle.std.proofs.Common.{◌≡◌, drop, flat_map}
+use Rattle.std.specs.List.{list_all}
 use Rattle.vg_type.specs.Setting.{setting_in}
 use Rattle.vg_width.specs.AbiRole.{registers_of}
 use Rattle.vg_width.specs.Registers.{is_right}

@@ -1,4 +1,4 @@
-use Rattle.std.proofs.Common.{◌≡◌, ◌++◌, drop, map, flat_map, nat_eq, nat_lt, not}
+use Rattle.std.proofs.Common.{◌≡◌, drop, flat_map}
 use Rattle.vg_width.specs.AbiRole.{registers_of}
 use Rattle.vg_width.specs.Registers.{first_register}
 use Rattle.vg_width.proofs.abi_register.first_register.Given as goal

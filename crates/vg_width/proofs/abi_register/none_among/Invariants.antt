@@ -1,4 +1,4 @@
-use Rattle.std.proofs.Common.{◌≡◌, ◌++◌, drop, map, flat_map, nat_eq, nat_lt, not}
+use Rattle.std.proofs.Common.{◌≡◌, drop, nat_eq, not}
 use Rattle.std.specs.List.{list_all, list_any}
 use Rattle.vg_width.proofs.abi_register.none_among.Given as goal
 

@@ -1,4 +1,4 @@
-use Rattle.std.proofs.Common.{◌≡◌, ◌++◌, drop, map, flat_map, nat_eq, nat_lt, not}
+use Rattle.std.proofs.Common.{◌≡◌, ◌++◌, drop, map}
 use Rattle.vg_type.specs.Setting.{setting_in}
 use Rattle.vg_width.specs.AbiRole.{index_of}
 use Rattle.vg_width.proofs.abi_register.push_all.Given as goal

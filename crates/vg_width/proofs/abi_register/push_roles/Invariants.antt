@@ -1,4 +1,4 @@
-use Rattle.std.proofs.Common.{◌≡◌, ◌++◌, drop, map, flat_map, nat_eq, nat_lt, not}
+use Rattle.std.proofs.Common.{◌≡◌, ◌++◌, drop}
 use Rattle.vg_type.specs.Setting.{setting_in}
 use Rattle.vg_width.specs.AbiRole.{indices}
 use Rattle.vg_width.specs.AbiPart.{registers_by}

@@ -1,4 +1,4 @@
-use Rattle.std.proofs.Common.{◌≡◌, ◌++◌, drop, map, flat_map, nat_eq, nat_lt, not}
+use Rattle.std.proofs.Common.{◌≡◌, drop}
 use Rattle.vg_width.specs.AbiPart.{are_below}
 use Rattle.vg_width.proofs.abi_role.are_below.Given as goal
 

@@ -1,5 +1,5 @@
 use Rattle.std.proofs.Common.{◌≡◌, ◌<◌, ℕ, true, nat_eq}
-use Rattle.std.specs.List.{list_all, list_any}
+use Rattle.std.specs.List.{list_any}
 use Rattle.vg_ast.specs.declared.role.Role.{Role}
 use Rattle.vg_width.specs.AbiRole.{role_number}
 use Rattle.vg_width.proofs.abi_role.are_complete.Given as goal

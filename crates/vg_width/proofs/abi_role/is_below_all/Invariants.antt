@@ -1,5 +1,5 @@
-use Rattle.std.proofs.Common.{◌≡◌, ◌++◌, drop, map, flat_map, nat_eq, nat_lt, not}
-use Rattle.std.specs.List.{list_all, list_any}
+use Rattle.std.proofs.Common.{◌≡◌, drop, nat_lt}
+use Rattle.std.specs.List.{list_all}
 use Rattle.vg_width.proofs.abi_role.is_below_all.Given as goal
 
 abbrev pub invariant-loop-other : goal.invariant-loop-other

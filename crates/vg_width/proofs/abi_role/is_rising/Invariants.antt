@@ -1,4 +1,4 @@
-use Rattle.std.proofs.Common.{◌≡◌, ◌++◌, drop, map, flat_map, nat_eq, nat_lt, not}
+use Rattle.std.proofs.Common.{◌≡◌, drop}
 use Rattle.vg_width.specs.AbiRole.{is_rising}
 use Rattle.vg_width.proofs.abi_role.is_rising.Given as goal
 

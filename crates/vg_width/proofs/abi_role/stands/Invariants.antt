@@ -1,5 +1,5 @@
-use Rattle.std.proofs.Common.{◌≡◌, ◌++◌, drop, map, flat_map, nat_eq, nat_lt, not}
-use Rattle.std.specs.List.{list_all, list_any}
+use Rattle.std.proofs.Common.{◌≡◌, drop, map, nat_eq}
+use Rattle.std.specs.List.{list_any}
 use Rattle.vg_width.specs.AbiRole.{role_number}
 use Rattle.vg_width.proofs.abi_role.stands.Given as goal
 

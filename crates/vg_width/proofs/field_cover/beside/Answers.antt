@@ -1,4 +1,4 @@
-use Rattle.std.proofs.Common.{ℕ, ◌+◌, ◌∙◌, List, [], ◌∷◌, map, drop, ap, subst}
+use Rattle.std.proofs.Common.{◌+◌, ◌∙◌, List, [], ◌∷◌, map, drop, ap, subst}
 use Rattle.vg_inline.specs.Context.{constants_in}
 use Rattle.vg_width.specs.declared.span.Span.{Span}
 use Rattle.vg_width.specs.FieldCover.{ends_of, span}

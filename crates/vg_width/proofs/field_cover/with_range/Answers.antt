@@ -13,6 +13,7 @@ returns-then-is_met c = λ front names.
 
 pub returns : goal.returns
 returns c = λ front names. (
-    range_is c.args.width front c.args.ends c.span-bits.result c.span-bits.ensures.span (sym c.runs_upwards.ensures ∙ c.if-runs_upwards.false)
-    ∙ or_from (nat_le c.args.width c.span-bits.result.high) (list_any (meet c.span-bits.result) front) (lt-leb c.args.width c.span-bits.result.high c.if-bits-width.false) (sym (c.is_met.ensures front names) ∙ c.if-is_met.false),
-    range_named c.args.width front c.args.ends c.span-bits.result c.span-bits.ensures.span (sym c.runs_upwards.ensures ∙ c.if-runs_upwards.false) c.args.named c.mask_of.result names c.mask_of.ensures)
+  range_is c.args.width front c.args.ends c.span-bits.result c.span-bits.ensures.span (sym c.runs_upwards.ensures ∙ c.if-runs_upwards.false)
+      ∙ or_from (nat_le c.args.width c.span-bits.result.high) (list_any (meet c.span-bits.result) front) (lt-leb c.args.width c.span-bits.result.high c.if-bits-width.false) (sym (c.is_met.ensures front names) ∙ c.if-is_met.false),
+  range_named c.args.width front c.args.ends c.span-bits.result c.span-bits.ensures.span (sym c.runs_upwards.ensures ∙ c.if-runs_upwards.false) c.args.named c.mask_of.result names c.mask_of.ensures,
+)

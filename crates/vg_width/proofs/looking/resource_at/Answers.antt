@@ -1,4 +1,3 @@
-use Rattle.std.proofs.Common.{sym, ◌∙◌}
 use Rattle.vg_type.specs.Setting.{setting_in}
 use Rattle.vg_width.proofs.ResourceLemmas.{found_resource, missed_resource}
 use Rattle.vg_width.proofs.looking.resource_at.Goals as goal

@@ -1,5 +1,5 @@
-use Rattle.std.proofs.Common.{◌≡◌, sym, subst, ap, ◌∙◌}
-use Rattle.std.specs.Prelude.{IfOk, slice_get, Some}
+use Rattle.std.proofs.Common.{◌≡◌, subst}
+use Rattle.std.specs.Prelude.{IfOk}
 use Rattle.vg_width.specs.declared.made.Made.{Made}
 use Rattle.vg_width.specs.Frame.{frame_in}
 use Rattle.vg_width.proofs.MadeLemmas.{made_two, made_three, made_more}
