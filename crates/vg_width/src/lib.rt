@@ -1,18 +1,19 @@
 //! The rules of types, formats, encodings, behaviours, the binary interface, stages and limits.
 //!
-//! In goes a description that keeps the rules of names, constants and the number of nodes, with what is known of its items
-//! (`vg_inline::Plain`). Out comes the first of these rules that it breaks, at its first place, or nothing ([`check`]).
-//! `specs/Rules.antt` has for each rule the list of places at which a description breaks it (`places_of`, in the order of the
-//! text), the order in which the rules are asked, and the processor that it stands for where it keeps them all (`isa_of`).
+//! In goes a description that keeps the rules of names, constants and the number of nodes, with what is known of its
+//! items (`vg_inline::Plain`). Out comes the first of these rules that it breaks, at its first place, or nothing
+//! ([`check`]). `specs/Rules.antt` has for each rule the list of places at which a description breaks it (`places_of`,
+//! in the order of the text), the order in which the rules are asked, and the processor that it stands for where it
+//! keeps them all (`isa_of`).
 //!
-//! The theorem: `check` answers nothing exactly where the rules that are asked (`asked_order`) are kept, and else exactly the
-//! first that is broken. Each rule has a function of its own that answers exactly its first place. A law says that a
-//! description keeps all rules or breaks exactly one of them first ([`one_answer`]). Not asked yet are the rules of two writes
-//! and of two accesses. Of the processor the trees are made: what stands for an expression ([`make`]), which is typed
-//! ([`made_is_typed`]), and what an instruction writes ([`written_to`]).
+//! The theorem: `check` answers nothing exactly where the rules that are asked (`asked_order`) are kept, and else
+//! exactly the first that is broken. Each rule has a function of its own that answers exactly its first place. A law
+//! says that a description keeps all rules or breaks exactly one of them first ([`one_answer`]). Not asked yet are the
+//! rules of two writes and of two accesses. Of the processor the trees are made: what stands for an expression
+//! ([`make`]), which is typed ([`made_is_typed`]), and what an instruction writes ([`written_to`]).
 //!
-//! What an instruction does is made, asked and dropped before the next is made; acts are met in a hash table. Work is linear
-//! in the text and the nodes of behaviours.
+//! What an instruction does is made, asked and dropped before the next is made; acts are met in a hash table. Work is
+//! linear in the text and the nodes of behaviours.
 //!
 //! The rules of types and ranges are those of vg_type. `FieldCover`, `FieldValue`, `AbiRole`, `StageOrder` and `Limit`
 //! speak of what is written; `Access` of what an instruction does with everything in place: no path writes a resource
