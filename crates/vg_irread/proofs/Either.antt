@@ -16,7 +16,6 @@ nil_not (b ∷ before) a others h = absurd (cc)
 
 module _ {A B X : Type 0} {sa : Spelling A X} {sb : Spelling B X} {ka ga kb gb : List Kind} {ra rb : Reader X} (first : IsExact sa ka false ga ra) (second : IsExact sb kb false gb rb)
     (alone : IsTrue (apart ka kb)) where
-
   left_by : (d : ℕ) (ts : List Placed) → Starts ka false ts → either_at ka ra rb d ts ≡ ra d ts
   left_by d [] h = absurd (cc)
   left_by d (t ∷ ts) h = rw h refl
