@@ -35,4 +35,6 @@ pub use decoder::{Decoder, build};
 pub use laws::{decoder_decodes, one_overlap, overlap_is_ambiguous};
 
 #[cfg(test)]
+mod described;
+#[cfg(test)]
 mod tests;

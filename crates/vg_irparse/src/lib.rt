@@ -39,8 +39,8 @@ mod words;
 
 pub use laws::exact_types;
 pub use name::{bare_bytes, name_of};
-pub use part::Part;
 pub use number::{exact_value, kept_value};
+pub use part::Part;
 pub use role::{Role, Wanted};
 pub use stop::Stop;
 pub use table::{entry_of, is_one_of};

@@ -43,9 +43,9 @@ pub is_in-append : (zs bs : List Kind) (t : List ℕ) → is_in (zs ++ bs) t ≡
 is_in-append [] bs t = refl
 is_in-append (a ∷ zs) bs t = in_by (is_of a t) (is_in zs t) (is_in bs t) (is_in (zs ++ bs) t) (is_in-append zs bs t)
   where
-  in_by : (x y z u : Bool) → u ≡ cond y true z → cond x true u ≡ cond (cond x true y) true z
-  in_by true y z u h = refl
-  in_by false y z u h = h
+    in_by : (x y z u : Bool) → u ≡ cond y true z → cond x true u ≡ cond (cond x true y) true z
+    in_by true y z u h = refl
+    in_by false y z u h = h
 
 pub in_left : (zs bs : List Kind) (t : List ℕ) → is_in zs t ≡ true → is_in (zs ++ bs) t ≡ true
 in_left zs bs t h = is_in-append zs bs t ∙ if_first (is_in zs t) (is_in bs t) h
@@ -71,8 +71,8 @@ ranges_apart a b c h k l =
       | inr x ↦ below b.1 a.0 c x q.1 p.0
     ]
   where
-  below : (m n c : ℕ) → nat_lt m n ≡ true → nat_le c m ≡ true → nat_le n c ≡ true → ⊥
-  below m n c x y z = grind (arith, nat_tests)
+    below : (m n c : ℕ) → nat_lt m n ≡ true → nat_le c m ≡ true → nat_le n c ≡ true → ⊥
+    below m n c x y z = grind (arith, nat_tests)
 
 range_apart : (a : ℕ × ℕ) (bs : List (ℕ × ℕ)) (c : ℕ) → list_all (are_apart a) bs ≡ true → is_within a c ≡ true → is_among bs c ≡ true → ⊥
 range_apart a [] c h k l = absurd (cc)
@@ -146,13 +146,13 @@ label_head t h =
       | inr x ↦ quoted_label t x
     ]
   where
-  word_label : (t : List ℕ) → is_word_name t ≡ true → is_among (heads label) (head t) ≡ true
-  word_label [] h = absurd (cc)
-  word_label (c ∷ cs) h = start_head c ((and_parts (may_start_name c) (list_all may_continue_name cs) h).0)
+    word_label : (t : List ℕ) → is_word_name t ≡ true → is_among (heads label) (head t) ≡ true
+    word_label [] h = absurd (cc)
+    word_label (c ∷ cs) h = start_head c ((and_parts (may_start_name c) (list_all may_continue_name cs) h).0)
 
-  quoted_label : (t : List ℕ) → is_quoted t ≡ true → is_among (heads label) (head t) ≡ true
-  quoted_label [] h = absurd (cc)
-  quoted_label (c ∷ cs) h = let p = (and_parts (c == 34) (ends_quote cs) h).0 in let e : 34 ≡ c = grind (arith, nat_tests) in subst (λ z. is_among (heads label) z ≡ true) e refl
+    quoted_label : (t : List ℕ) → is_quoted t ≡ true → is_among (heads label) (head t) ≡ true
+    quoted_label [] h = absurd (cc)
+    quoted_label (c ∷ cs) h = let p = (and_parts (c == 34) (ends_quote cs) h).0 in let e : 34 ≡ c = grind (arith, nat_tests) in subst (λ z. is_among (heads label) z ≡ true) e refl
 
 head_of : (k : Kind) (t : List ℕ) → is_of k t ≡ true → is_among (heads k) (head t) ≡ true
 head_of (words ws) t h = words_head ws t h

@@ -28,7 +28,7 @@ use Rattle.vg_irread.specs.Kinds.{Kind, words, local, is_in}
 use Rattle.vg_irread.specs.Reading.{Reader, done, token_at, ◌>>=◌}
 use Rattle.vg_irread.specs.Exact.{Spelling, front, one, sign, both, nothing, IsExact}
 use Rattle.vg_irread.specs.ReadingOperand.{behind, a_result_name, result_name_at, is_operand_for, an_operand, a_value_type, sign_at, operand_at, value_type_at}
-use Rattle.vg_irread.specs.ReadingInstruction.{entry, operator_at, flags_at, binary_at}
+use Rattle.vg_irread.specs.ReadingInstruction.{words_of, entry, operator_at, flags_at, binary_at}
 use Rattle.vg_irread.specs.ExactInstruction.{flags, an_instruction, is_binary, BinaryIsExact}
 use Rattle.vg_irread.proofs.Single.{token_exact, done_exact}
 use Rattle.vg_irread.proofs.Pairs.{both_exact}
@@ -38,18 +38,13 @@ use Rattle.vg_irread.proofs.Flags.{operator_flag_kinds, operator_flags_exact}
 
 -- ---- the word
 
--- the words of a table
-abbrev pub words_of : {X : Type 0} → List (List ℕ × X) → List (List ℕ)
-words_of [] = []
-words_of (e ∷ es) = e.0 ∷ words_of es
-
 entry_kind : {X : Type 0} (table : List (List ℕ × X)) (text : List ℕ) → is_some (entry_of table text) ≡ true → is_one_of (words_of table) text ≡ true
 entry_kind [] text h = h
 entry_kind (e ∷ es) text h = by_test (same_text e.0 text) (λ k. entry_kind es text k) h
   where
-  by_test : (b : Bool) → (is_some (entry_of es text) ≡ true → is_one_of (words_of es) text ≡ true) → is_some (cond b (Some e.1) (entry_of es text)) ≡ true → cond b true (is_one_of (words_of es) text) ≡ true
-  by_test true go k = refl
-  by_test false go k = go k
+    by_test : (b : Bool) → (is_some (entry_of es text) ≡ true → is_one_of (words_of es) text ≡ true) → is_some (cond b (Some e.1) (entry_of es text)) ≡ true → cond b true (is_one_of (words_of es) text) ≡ true
+    by_test true go k = refl
+    by_test false go k = go k
 
 in_one : (b : Bool) → b ≡ true → cond b true false ≡ true
 in_one b h = rw h refl
@@ -70,32 +65,34 @@ entry_exact role w table d text h =
 
 -- ---- all of it
 
-abbrev operator_of : Placed → BinaryOperator
+abbrev pub operator_of : Placed → BinaryOperator
 operator_of op = unwrap_or (entry_of operator_words op.text) operators.Add
 
 flags_exact_at : (v u : BinaryOperator) → v ≡ u → IsExact (flags (operator_flags u)) operator_flag_kinds true operator_flag_kinds (flags_at (operator_flags v))
 flags_exact_at v u e = subst (λ z. IsExact (flags (operator_flags u)) operator_flag_kinds true operator_flag_kinds (flags_at (operator_flags z))) (sym e) (operator_flags_exact u)
 
-abbrev made : NameAt → BinaryOperator × ℕ → TypeAt → Operand → Operand → Instruction
+abbrev pub made : NameAt → BinaryOperator × ℕ → TypeAt → Operand → Operand → Instruction
 made result op t left right = instructions.Binary (record { at = spot op.1; result = result; operator = op.0; ty = t; left = left; right = right })
 
 made_same : (r s : NameAt) (o p : BinaryOperator × ℕ) (t u : TypeAt) (a b c d : Operand) → r ≡ s → o ≡ p → t ≡ u → a ≡ b → c ≡ d → made r o t a c ≡ made s p u b d
 made_same r s o p t u a b c d e f g h i =
     ap (λ z. made z o t a c) e ∙ (ap (λ z. made s z t a c) f ∙ (ap (λ z. made s p z a c) g ∙ (ap (λ z. made s p u z c) h ∙ ap (λ z. made s p u b z) i)))
 
-abbrev width_of : TypeTree → Option ℕ
+abbrev pub width_of : TypeTree → Option ℕ
 width_of t = integer_width (tree.type_of t)
 
 -- the parts of the text, one behind another
-abbrev parts : Spelling (ResultName × (Placed × (List Placed × (TypeTree × (Placed × (Mark × (Placed × Unit {0}))))))) Instruction
-parts = both a_result_name (λ r. both (an_entry operation operator_words operators.Add) (λ op. both (flags (operator_flags (operator_of op))) (λ fs. both a_value_type (λ t.
+abbrev pub binary_body : ResultName → Spelling (Placed × (List Placed × (TypeTree × (Placed × (Mark × (Placed × Unit {0})))))) Instruction
+binary_body r = both (an_entry operation operator_words operators.Add) (λ op. both (flags (operator_flags (operator_of op))) (λ fs. both a_value_type (λ t.
     both (an_operand (width_of t)) (λ left. both (sign plain (codes ",")) (λ comma. both (an_operand (width_of t)) (λ right.
-    nothing (made (result_of r) (operator_of op, op.at) (tree.type_at t) (tree.operand_of left) (tree.operand_of right)))))))))
+    nothing (made (result_of r) (operator_of op, op.at) (tree.type_at t) (tree.operand_of left) (tree.operand_of right))))))))
 
-parts_exact : IsExact parts (local ∷ []) false [] (result_name_at >>= binary_at)
+abbrev pub parts : Spelling (ResultName × (Placed × (List Placed × (TypeTree × (Placed × (Mark × (Placed × Unit {0}))))))) Instruction
+parts = both a_result_name binary_body
+
+pub binary_body_exact : (r : NameAt) (rt : ResultName) → r ≡ result_of rt → IsExact (binary_body rt) (words (words_of operator_words) ∷ []) false [] (binary_at r)
 unfolding binary_at
-parts_exact =
-    both_exact result_name_exact (λ r rt rg re.
+binary_body_exact r rt re =
     both_exact (entry_exact operation (wanted roles.Operation) operator_words operators.Add (codes "add") refl) (λ op ot og oe.
     both_exact (flags_exact_at op.0 (operator_of ot) (ap (λ (z : BinaryOperator × ℕ). z.0) oe)) (λ fs ft fg fe.
     both_exact (value_type_exact (wanted roles.ValueType)) (λ t tt' tg te.
@@ -103,7 +100,10 @@ parts_exact =
     both_exact (sign_exact plain (codes ",") (wanted roles.Plain)) (λ comma ct cg ce.
     both_exact (operand_exact_at (integer_width t.ty) (width_of tt') (width_same t (tree.type_at tt') te) (wanted roles.Operand)) (λ right rt' rg' re'.
     done_exact _ _ (made_same r (result_of rt) op (operator_of ot, ot.at) t (tree.type_at tt') left (tree.operand_of lt) right (tree.operand_of rt') re oe te le re'))
-    refl) refl) refl) refl) refl) refl) refl
+    refl) refl) refl) refl) refl) refl
+
+parts_exact : IsExact parts (local ∷ []) false [] (result_name_at >>= binary_at)
+parts_exact = both_exact result_name_exact (λ r rt rg re. binary_body_exact r rt re) refl
 
 operator_split : (e : Option BinaryOperator) (fs : List Placed) → option_map_or (λ o. are_flags (operator_flags o) fs) e false ≡ (is_some e && are_flags (operator_flags (unwrap_or e operators.Add)) fs)
 operator_split None fs = refl
@@ -118,7 +118,7 @@ regroup true true true true false f = refl
 regroup true true true true true false = refl
 regroup true true true true true true = refl
 
-grammar_same : (r : ResultName) (op : Placed) (fs : List Placed) (t : TypeTree) (left : Placed) (comma : Mark) (right : Placed)
+pub grammar_same : (r : ResultName) (op : Placed) (fs : List Placed) (t : TypeTree) (left : Placed) (comma : Mark) (right : Placed)
     → parts.grammar (r, (op, (fs, (t, (left, (comma, (right, tt))))))) ≡ (an_instruction is_binary).grammar (binary r op fs t left comma right)
 grammar_same r op fs t left comma right =
     let a = is_result_name r in

@@ -15,3 +15,5 @@ pub mod Layers
 pub mod BinaryExact
 pub mod Known
 pub mod InstructionsExact
+pub mod Either
+pub mod OperationExact

@@ -17,7 +17,6 @@ use Rattle.vg_irread.proofs.Pairs.{again_over, ends_join}
 use Rattle.vg_irread.proofs.Optional.{deciding, deciding_is, starts_before, starts_may}
 
 module _ {T X : Type 0} {s : Spelling T X} {kinds goes : List Kind} {read : Reader X} (i : IsExact s kinds false goes read) (alone : IsTrue (apart goes kinds)) where
-
   front_more : (t : T) (ts : List T) → IsTrue (s.grammar t) → front (many s) (t ∷ ts) ≡ front s t ++ front (many s) ts
   front_more t ts g = i.appends t g (spelled_list s.spelled ts [])
 
@@ -87,11 +86,11 @@ module _ {T X : Type 0} {s : Spelling T X} {kinds goes : List Kind} {read : Read
   found_from (suc fuel) xs d [] ys rest h = found_end xs d [] ys rest h
   found_from (suc fuel) xs d (t ∷ ts) ys rest h = by_test (is_in kinds t.text) (λ zs us l. found_from fuel zs d us ys rest l) h
     where
-    by_test : (b : Bool) → ((zs : List X) (us : List Placed) → many_from fuel kinds read zs d us ≡ reads (ys, rest) → FoundFrom zs d us ys rest) → cond b (answer.◌>>=◌ (read d (t ∷ ts)) (λ x. many_from fuel kinds read (xs ++ x.0 ∷ []) d x.1)) (reads (xs, t ∷ ts)) ≡ reads (ys, rest) → FoundFrom xs d (t ∷ ts) ys rest
-    by_test true go k =
-        bind (read d (t ∷ ts)) (λ x. many_from fuel kinds read (xs ++ x.0 ∷ []) d x.1) (ys, rest) (FoundFrom xs d (t ∷ ts) ys rest) k (λ x hx l.
-        found_more xs d (t ∷ ts) x.0 x.1 ys rest (i.sound d (t ∷ ts) x.0 x.1 hx) (go (xs ++ x.0 ∷ []) x.1 l))
-    by_test false go k = found_end xs d (t ∷ ts) ys rest k
+      by_test : (b : Bool) → ((zs : List X) (us : List Placed) → many_from fuel kinds read zs d us ≡ reads (ys, rest) → FoundFrom zs d us ys rest) → cond b (answer.◌>>=◌ (read d (t ∷ ts)) (λ x. many_from fuel kinds read (xs ++ x.0 ∷ []) d x.1)) (reads (xs, t ∷ ts)) ≡ reads (ys, rest) → FoundFrom xs d (t ∷ ts) ys rest
+      by_test true go k =
+          bind (read d (t ∷ ts)) (λ x. many_from fuel kinds read (xs ++ x.0 ∷ []) d x.1) (ys, rest) (FoundFrom xs d (t ∷ ts) ys rest) k (λ x hx l.
+          found_more xs d (t ∷ ts) x.0 x.1 ys rest (i.sound d (t ∷ ts) x.0 x.1 hx) (go (xs ++ x.0 ∷ []) x.1 l))
+      by_test false go k = found_end xs d (t ∷ ts) ys rest k
 
   -- ---- what is spelled is read
 
@@ -128,28 +127,28 @@ module _ {T X : Type 0} {s : Spelling T X} {kinds goes : List Kind} {read : Read
       let b = is_in kinds ((deciding before t).text) in
       from_by more xs e before t vs b refl ∙ by_test b (λ zs fb k o. again_from fuel zs d ys fb t us k e l vs more o) (sym (from_by fuel xs d before t us b refl) ∙ h)
     where
-    by_test : (b : Bool)
-        → ((zs : List X) (fb : List Placed) → many_from fuel kinds read zs d (fb ++ t ∷ us) ≡ reads (ys, t ∷ us) → length (fb ++ t ∷ vs) < more → many_from more kinds read zs e (fb ++ t ∷ vs) ≡ reads (ys, t ∷ vs))
-        → cond b (answer.◌>>=◌ (read d (before ++ t ∷ us)) (λ x. many_from fuel kinds read (xs ++ x.0 ∷ []) d x.1)) (reads (xs, before ++ t ∷ us)) ≡ reads (ys, t ∷ us)
-        → cond b (answer.◌>>=◌ (read e (before ++ t ∷ vs)) (λ x. many_from more kinds read (xs ++ x.0 ∷ []) e x.1)) (reads (xs, before ++ t ∷ vs)) ≡ reads (ys, t ∷ vs)
-    by_test true go k =
-        bind (read d (before ++ t ∷ us)) (λ x. many_from fuel kinds read (xs ++ x.0 ∷ []) d x.1) (ys, t ∷ us) _ k (λ x hx h2.
-        let f = i.sound d (before ++ t ∷ us) x.0 x.1 hx in
-        let r = found_from fuel (xs ++ x.0 ∷ []) d x.1 ys (t ∷ us) h2 in
-        let fa = front s f.tree in
-        let fb = front (many s) r.trees in
-        let w : before ++ t ∷ us ≡ fa ++ (fb ++ t ∷ us) = f.whole ∙ ap (λ z. fa ++ z) r.whole in
-        let c : before ≡ fa ++ fb = cut_once before (t ∷ us) (fa ++ fb) (t ∷ us) (w ∙ sym (append_assoc fa fb (t ∷ us))) refl in
-        let q : read d (fa ++ (fb ++ t ∷ us)) ≡ reads (x.0, fb ++ t ∷ us) = ap (read d) (sym w) ∙ (hx ∙ ap (λ z. reads (x.0, z)) r.whole) in
-        let o : before ++ t ∷ vs ≡ fa ++ (fb ++ t ∷ vs) = ap (λ z. z ++ t ∷ vs) c ∙ append_assoc fa fb (t ∷ vs) in
-        let z = some_text fa (i.starts f.tree f.is_one) in
-        bind_reads (read e (before ++ t ∷ vs)) (λ y. many_from more kinds read (xs ++ y.0 ∷ []) e y.1) (x.0, fb ++ t ∷ vs) (ap (read e) o ∙ again_over i d x.0 fa fb t us q e l vs)
-        ∙ go (xs ++ x.0 ∷ []) fb (ap (many_from fuel kinds read (xs ++ x.0 ∷ []) d) (sym r.whole) ∙ h2)
-            (omega (arith, m, z, ap length o, length-append fa (fb ++ t ∷ vs))))
-    by_test false go k =
-        let p = same_reads (xs, before ++ t ∷ us) (ys, t ∷ us) k in
-        let f = no_more before (t ∷ us) (ap (λ (u : List X × List Placed). u.1) p) in
-        ap (λ (u : List X). reads (u, before ++ t ∷ vs)) (ap (λ (u : List X × List Placed). u.0) p) ∙ ap (λ (u : List Placed). reads (ys, u ++ t ∷ vs)) f
+      by_test : (b : Bool)
+          → ((zs : List X) (fb : List Placed) → many_from fuel kinds read zs d (fb ++ t ∷ us) ≡ reads (ys, t ∷ us) → length (fb ++ t ∷ vs) < more → many_from more kinds read zs e (fb ++ t ∷ vs) ≡ reads (ys, t ∷ vs))
+          → cond b (answer.◌>>=◌ (read d (before ++ t ∷ us)) (λ x. many_from fuel kinds read (xs ++ x.0 ∷ []) d x.1)) (reads (xs, before ++ t ∷ us)) ≡ reads (ys, t ∷ us)
+          → cond b (answer.◌>>=◌ (read e (before ++ t ∷ vs)) (λ x. many_from more kinds read (xs ++ x.0 ∷ []) e x.1)) (reads (xs, before ++ t ∷ vs)) ≡ reads (ys, t ∷ vs)
+      by_test true go k =
+          bind (read d (before ++ t ∷ us)) (λ x. many_from fuel kinds read (xs ++ x.0 ∷ []) d x.1) (ys, t ∷ us) _ k (λ x hx h2.
+          let f = i.sound d (before ++ t ∷ us) x.0 x.1 hx in
+          let r = found_from fuel (xs ++ x.0 ∷ []) d x.1 ys (t ∷ us) h2 in
+          let fa = front s f.tree in
+          let fb = front (many s) r.trees in
+          let w : before ++ t ∷ us ≡ fa ++ (fb ++ t ∷ us) = f.whole ∙ ap (λ z. fa ++ z) r.whole in
+          let c : before ≡ fa ++ fb = cut_once before (t ∷ us) (fa ++ fb) (t ∷ us) (w ∙ sym (append_assoc fa fb (t ∷ us))) refl in
+          let q : read d (fa ++ (fb ++ t ∷ us)) ≡ reads (x.0, fb ++ t ∷ us) = ap (read d) (sym w) ∙ (hx ∙ ap (λ z. reads (x.0, z)) r.whole) in
+          let o : before ++ t ∷ vs ≡ fa ++ (fb ++ t ∷ vs) = ap (λ z. z ++ t ∷ vs) c ∙ append_assoc fa fb (t ∷ vs) in
+          let z = some_text fa (i.starts f.tree f.is_one) in
+          bind_reads (read e (before ++ t ∷ vs)) (λ y. many_from more kinds read (xs ++ y.0 ∷ []) e y.1) (x.0, fb ++ t ∷ vs) (ap (read e) o ∙ again_over i d x.0 fa fb t us q e l vs)
+          ∙ go (xs ++ x.0 ∷ []) fb (ap (many_from fuel kinds read (xs ++ x.0 ∷ []) d) (sym r.whole) ∙ h2)
+          (omega (arith, m, z, ap length o, length-append fa (fb ++ t ∷ vs))))
+      by_test false go k =
+          let p = same_reads (xs, before ++ t ∷ us) (ys, t ∷ us) k in
+          let f = no_more before (t ∷ us) (ap (λ (u : List X × List Placed). u.1) p) in
+          ap (λ (u : List X). reads (u, before ++ t ∷ vs)) (ap (λ (u : List X × List Placed). u.0) p) ∙ ap (λ (u : List Placed). reads (ys, u ++ t ∷ vs)) f
 
   -- ---- what is refused leaves what is spelled
 
@@ -174,13 +173,13 @@ module _ {T X : Type 0} {s : Spelling T X} {kinds goes : List Kind} {read : Read
         refuses = λ a others q e l us fuel ys. at_fuel a others q e l us ys fuel;
       }
     where
-    at_fuel : (a : Placed) (others : List Placed) → r.behind ≡ a ∷ others → (e : ℕ) → d ≤ e → (us : List Placed) (ys : List X) (fuel : ℕ)
-        → Tells (many_from fuel kinds read ys e (r.before ++ a ∷ us)) (length us + 1) w
-    at_fuel a others q e l us ys zero = inr refl
-    at_fuel a others q e l us ys (suc fuel) =
-        let f = deciding_is t ts r.before a others (r.whole ∙ ap (λ z. r.before ++ z) q) in
-        tells_along _ _ (length us + 1) w (from_by fuel ys e r.before a us true (ap (λ (z : Placed). is_in kinds z.text) (sym f) ∙ m))
-        (bind_tells (read e (r.before ++ a ∷ us)) (λ x. many_from fuel kinds read (ys ++ x.0 ∷ []) e x.1) (length us + 1) w (r.refuses a others q e l us))
+      at_fuel : (a : Placed) (others : List Placed) → r.behind ≡ a ∷ others → (e : ℕ) → d ≤ e → (us : List Placed) (ys : List X) (fuel : ℕ)
+          → Tells (many_from fuel kinds read ys e (r.before ++ a ∷ us)) (length us + 1) w
+      at_fuel a others q e l us ys zero = inr refl
+      at_fuel a others q e l us ys (suc fuel) =
+          let f = deciding_is t ts r.before a others (r.whole ∙ ap (λ z. r.before ++ z) q) in
+          tells_along _ _ (length us + 1) w (from_by fuel ys e r.before a us true (ap (λ (z : Placed). is_in kinds z.text) (sym f) ∙ m))
+          (bind_tells (read e (r.before ++ a ∷ us)) (λ x. many_from fuel kinds read (ys ++ x.0 ∷ []) e x.1) (length us + 1) w (r.refuses a others q e l us))
 
   refused_more : (d : ℕ) (ts : List Placed) (n : ℕ) (w : Wanted) (x : X) (after : List Placed) → read d ts ≡ reads (x, after) → Found s d ts x after → RefusedFrom d after n w → RefusedFrom d ts n w
   refused_more d ts n w x after h f r =
@@ -199,31 +198,31 @@ module _ {T X : Type 0} {s : Spelling T X} {kinds goes : List Kind} {read : Read
         refuses = λ a others q e l us fuel ys. at_fuel a others q e l us ys fuel;
       }
     where
-    at_fuel : (a : Placed) (others : List Placed) → r.behind ≡ a ∷ others → (e : ℕ) → d ≤ e → (us : List Placed) (ys : List X) (fuel : ℕ)
-        → Tells (many_from fuel kinds read ys e ((front s f.tree ++ r.before) ++ a ∷ us)) (length us + 1) w
-    at_fuel a others q e l us ys zero = inr refl
-    at_fuel a others q e l us ys (suc fuel) =
-        let fa = front s f.tree in
-        let o : after ≡ r.before ++ a ∷ others = r.whole ∙ ap (λ z. r.before ++ z) q in
-        let k : read d (fa ++ (r.before ++ a ∷ others)) ≡ reads (x, r.before ++ a ∷ others) =
-            ap (read d) (ap (λ z. fa ++ z) (sym o) ∙ sym f.whole) ∙ (h ∙ ap (λ z. reads (x, z)) o) in
-        tells_along _ _ (length us + 1) w
-        (ap (λ z. many_from (suc fuel) kinds read ys e z) (append_assoc fa r.before (a ∷ us))
-        ∙ (from_starts fuel ys e (fa ++ (r.before ++ a ∷ us)) (starts_before kinds fa (r.before ++ a ∷ us) (i.starts f.tree f.is_one))
-        ∙ bind_reads (read e (fa ++ (r.before ++ a ∷ us))) (λ z. many_from fuel kinds read (ys ++ z.0 ∷ []) e z.1) (x, r.before ++ a ∷ us) (again_over i d x fa r.before a others k e l us)))
-        (r.refuses a others q e l us fuel (ys ++ x ∷ []))
+      at_fuel : (a : Placed) (others : List Placed) → r.behind ≡ a ∷ others → (e : ℕ) → d ≤ e → (us : List Placed) (ys : List X) (fuel : ℕ)
+          → Tells (many_from fuel kinds read ys e ((front s f.tree ++ r.before) ++ a ∷ us)) (length us + 1) w
+      at_fuel a others q e l us ys zero = inr refl
+      at_fuel a others q e l us ys (suc fuel) =
+          let fa = front s f.tree in
+          let o : after ≡ r.before ++ a ∷ others = r.whole ∙ ap (λ z. r.before ++ z) q in
+          let k : read d (fa ++ (r.before ++ a ∷ others)) ≡ reads (x, r.before ++ a ∷ others) =
+          ap (read d) (ap (λ z. fa ++ z) (sym o) ∙ sym f.whole) ∙ (h ∙ ap (λ z. reads (x, z)) o) in
+          tells_along _ _ (length us + 1) w
+          (ap (λ z. many_from (suc fuel) kinds read ys e z) (append_assoc fa r.before (a ∷ us))
+          ∙ (from_starts fuel ys e (fa ++ (r.before ++ a ∷ us)) (starts_before kinds fa (r.before ++ a ∷ us) (i.starts f.tree f.is_one))
+          ∙ bind_reads (read e (fa ++ (r.before ++ a ∷ us))) (λ z. many_from fuel kinds read (ys ++ z.0 ∷ []) e z.1) (x, r.before ++ a ∷ us) (again_over i d x fa r.before a others k e l us)))
+          (r.refuses a others q e l us fuel (ys ++ x ∷ []))
 
   refused_from : (fuel : ℕ) (xs : List X) (d : ℕ) (ts : List Placed) (n : ℕ) (w : Wanted) → many_from fuel kinds read xs d ts ≡ leaves n w → RefusedFrom d ts n w
   refused_from zero xs d ts n w h = deep_leaves_not h
   refused_from (suc fuel) xs d [] n w h = reads_not h
   refused_from (suc fuel) xs d (t ∷ ts) n w h = by_test (is_in kinds t.text) (λ zs us l. refused_from fuel zs d us n w l) refl h
     where
-    by_test : (b : Bool) → ((zs : List X) (us : List Placed) → many_from fuel kinds read zs d us ≡ leaves n w → RefusedFrom d us n w) → is_in kinds t.text ≡ b → cond b (answer.◌>>=◌ (read d (t ∷ ts)) (λ x. many_from fuel kinds read (xs ++ x.0 ∷ []) d x.1)) (reads (xs, t ∷ ts)) ≡ leaves n w → RefusedFrom d (t ∷ ts) n w
-    by_test true go m k =
-        bind_leaves (read d (t ∷ ts)) (λ x. many_from fuel kinds read (xs ++ x.0 ∷ []) d x.1) n w (RefusedFrom d (t ∷ ts) n w) k
-        (λ l. refused_one d t ts n w m (i.placed d (t ∷ ts) n w l))
-        (λ x hx l. refused_more d (t ∷ ts) n w x.0 x.1 hx (i.sound d (t ∷ ts) x.0 x.1 hx) (go (xs ++ x.0 ∷ []) x.1 l))
-    by_test false go m k = reads_not k
+      by_test : (b : Bool) → ((zs : List X) (us : List Placed) → many_from fuel kinds read zs d us ≡ leaves n w → RefusedFrom d us n w) → is_in kinds t.text ≡ b → cond b (answer.◌>>=◌ (read d (t ∷ ts)) (λ x. many_from fuel kinds read (xs ++ x.0 ∷ []) d x.1)) (reads (xs, t ∷ ts)) ≡ leaves n w → RefusedFrom d (t ∷ ts) n w
+      by_test true go m k =
+          bind_leaves (read d (t ∷ ts)) (λ x. many_from fuel kinds read (xs ++ x.0 ∷ []) d x.1) n w (RefusedFrom d (t ∷ ts) n w) k
+          (λ l. refused_one d t ts n w m (i.placed d (t ∷ ts) n w l))
+          (λ x hx l. refused_more d (t ∷ ts) n w x.0 x.1 hx (i.sound d (t ∷ ts) x.0 x.1 hx) (go (xs ++ x.0 ∷ []) x.1 l))
+      by_test false go m k = reads_not k
 
   -- ---- all of it
 

@@ -54,9 +54,9 @@ one_takes {X} role is value kinds take same some some_is kind = record {
   kind = kind;
 }
   where
-  by_test : (l : Placed) (x : X) (b : Bool) → is l ≡ b → cond b (Some (value l)) None ≡ Some x → (t : Placed) × (is t ≡ true) × (l ≡ t) × (x ≡ value t)
-  by_test l x true k h = (l, k, refl, cc)
-  by_test l x false k h = absurd (cc)
+    by_test : (l : Placed) (x : X) (b : Bool) → is l ≡ b → cond b (Some (value l)) None ≡ Some x → (t : Placed) × (is t ≡ true) × (l ≡ t) × (x ≡ value t)
+    by_test l x true k h = (l, k, refl, cc)
+    by_test l x false k h = absurd (cc)
 
 text_placed : List ℕ → Placed
 text_placed text = record { text = text; at = 0; fresh = false }
@@ -91,18 +91,18 @@ sign_takes slot text same = record {
   kind = λ m g. rw (same m) (rw (same_bytes text) refl);
 }
   where
-  by_test : (l : Placed) (x : ℕ) (b : Bool) → bytes_eq l.text text ≡ b → cond b (Some l.at) None ≡ Some x → (m : Mark) × (true ≡ true) × (l ≡ (slot m).lexeme) × (x ≡ m.at)
-  by_test l x true k h = (mark_of l, refl, marked_is l text (text_is l.text text k) ∙ sym (same (mark_of l)), cc)
-  by_test l x false k h = absurd (cc)
+    by_test : (l : Placed) (x : ℕ) (b : Bool) → bytes_eq l.text text ≡ b → cond b (Some l.at) None ≡ Some x → (m : Mark) × (true ≡ true) × (l ≡ (slot m).lexeme) × (x ≡ m.at)
+    by_test l x true k h = (mark_of l, refl, marked_is l text (text_is l.text text k) ∙ sym (same (mark_of l)), cc)
+    by_test l x false k h = absurd (cc)
 
 fixed_is : (text : List ℕ) (w : Wanted) (d : ℕ) (ts : List Placed) → token_at (sign_take text) w d ts ≡ sign_at text w d ts
 unfolding sign_take
 fixed_is text w d [] = refl
 fixed_is text w d (t ∷ ts) = by_test (bytes_eq t.text text)
   where
-  by_test : (b : Bool) → token_by (cond b (Some t.at) None) w ts ≡ cond b (reads (t.at, ts)) (leaves (length ts + 1) w)
-  by_test true = refl
-  by_test false = refl
+    by_test : (b : Bool) → token_by (cond b (Some t.at) None) w ts ≡ cond b (reads (t.at, ts)) (leaves (length ts + 1) w)
+    by_test true = refl
+    by_test false = refl
 
 slot_exact : (slot : Mark → Slot) (text : List ℕ) → ((m : Mark) → (slot m).lexeme ≡ marked text m) → (w : Wanted)
     → IsExact (single slot (λ m. true) (λ m. m.at)) (words (text ∷ []) ∷ []) false [] (sign_at text w)
@@ -152,16 +152,16 @@ operand_kind width t h =
       | inr x ↦ in_tail local (global ∷ words constant_words ∷ number ∷ []) t (in_tail global (words constant_words ∷ number ∷ []) t (in_tail (words constant_words) (number ∷ []) t (in_head number [] t (number_kind width t x))))
     ]
   where
-  name_kind : is_name_or_word t ≡ true → is_in operand_kinds t ≡ true
-  name_kind x =
-      elim (or_cases (is_local t || is_global t) (is_one_of constant_words t) x) [
-        | inl y ↦ elim (or_cases (is_local t) (is_global t) y) [
-          | inl z ↦ in_head local (global ∷ words constant_words ∷ number ∷ []) t z
-          | inr z ↦ in_tail local (global ∷ words constant_words ∷ number ∷ []) t (in_head global (words constant_words ∷ number ∷ []) t z)
+    name_kind : is_name_or_word t ≡ true → is_in operand_kinds t ≡ true
+    name_kind x =
+        elim (or_cases (is_local t || is_global t) (is_one_of constant_words t) x) [
+          | inl y ↦ elim (or_cases (is_local t) (is_global t) y) [
+            | inl z ↦ in_head local (global ∷ words constant_words ∷ number ∷ []) t z
+            | inr z ↦ in_tail local (global ∷ words constant_words ∷ number ∷ []) t (in_head global (words constant_words ∷ number ∷ []) t z)
+          ]
+          | inr y ↦ in_tail local (global ∷ words constant_words ∷ number ∷ []) t
+              (in_tail global (words constant_words ∷ number ∷ []) t (in_head (words constant_words) (number ∷ []) t y))
         ]
-        | inr y ↦ in_tail local (global ∷ words constant_words ∷ number ∷ []) t
-            (in_tail global (words constant_words ∷ number ∷ []) t (in_head (words constant_words) (number ∷ []) t y))
-      ]
 
 pub operand_exact : (width : Option ℕ) (w : Wanted) → IsExact (an_operand width) operand_kinds false [] (operand_at width w)
 operand_exact width w = taken_exact operand (is_operand_for width) tree.operand_of operand_kinds (codes "%a") refl (operand_kind width) w
@@ -193,10 +193,10 @@ scalar_known : (n : ℕ) (text : List ℕ) (o : Option ℕ) → simple_by o text
 scalar_known n text (Some m) h = h
 scalar_known n text None h = by_word (bytes_eq text (codes "ptr")) (is_local text) h
   where
-  by_word : (a b : Bool) → cond a (Some ty.Ptr) (cond b (Some (ty.Named (name_of (name_bytes text)))) None) ≡ Some (ty.Int n) → cond a (Some ty.Ptr) None ≡ Some (ty.Int n)
-  by_word true b k = k
-  by_word false true k = int_not n (ty.Named (name_of (name_bytes text))) (width-Named (name_of (name_bytes text))) (some_same _ _ (sym k))
-  by_word false false k = absurd (cc)
+    by_word : (a b : Bool) → cond a (Some ty.Ptr) (cond b (Some (ty.Named (name_of (name_bytes text)))) None) ≡ Some (ty.Int n) → cond a (Some ty.Ptr) None ≡ Some (ty.Int n)
+    by_word true b k = k
+    by_word false true k = int_not n (ty.Named (name_of (name_bytes text))) (width-Named (name_of (name_bytes text))) (some_same _ _ (sym k))
+    by_word false false k = absurd (cc)
 
 scalar_given : (t : TypeTree) → is_value_type t ≡ true → scalar_of ((scalar_slot t).lexeme) ≡ Some (tree.type_at t)
 unfolding scalar_slot
@@ -241,9 +241,9 @@ scalar_by_entry l x (Some n) k h =
     subst (λ z. Scalar l z) (some_same _ _ h) (scalar_integer l n i.written i.grammar (i.spelled value_type []) i.ty_is i.at_is i.leaves_is)
 scalar_by_entry l x None k h = by_word (bytes_eq l.text (codes "ptr")) refl h
   where
-  by_word : (b : Bool) → bytes_eq l.text (codes "ptr") ≡ b → scalar_in (cond b (Some ty.Ptr) None) l ≡ Some x → Scalar l x
-  by_word true m e = (pointer (mark_of l), refl, marked_is l (codes "ptr") (text_is l.text (codes "ptr") m), sym (some_same _ _ e))
-  by_word false m e = absurd (cc)
+    by_word : (b : Bool) → bytes_eq l.text (codes "ptr") ≡ b → scalar_in (cond b (Some ty.Ptr) None) l ≡ Some x → Scalar l x
+    by_word true m e = (pointer (mark_of l), refl, marked_is l (codes "ptr") (text_is l.text (codes "ptr") m), sym (some_same _ _ e))
+    by_word false m e = absurd (cc)
 
 scalar_takes : Takes scalar_slot is_value_type tree.type_at value_type_kinds scalar_of
 unfolding Scalar

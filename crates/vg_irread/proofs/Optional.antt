@@ -33,7 +33,6 @@ starts_may kinds empty (t ∷ fa) h = h
 -- ---- what may lack
 
 module _ {T X : Type 0} {s : Spelling T X} {kinds goes : List Kind} {read : Reader X} (i : IsExact s kinds false goes read) where
-
   by_starts : (d : ℕ) (ts : List Placed) → Starts kinds false ts → optional_at kinds read d ts ≡ optional_by true read d ts
   by_starts d [] h = absurd (cc)
   by_starts d (t ∷ ts) h = rw h refl
@@ -85,9 +84,9 @@ module _ {T X : Type 0} {s : Spelling T X} {kinds goes : List Kind} {read : Read
       by_starts d (front s t ++ rest) (starts_before kinds (front s t) rest (i.starts t g))
       ∙ bind_reads (read d (front s t ++ rest)) (λ y. reads (Some y.0, y.1)) (s.means t, rest) (i.complete t g d n rest (ends_only rest e))
     where
-    ends_only : (rest : List Placed) → Ends (goes ++ kinds) rest → Ends goes rest
-    ends_only [] h = tt
-    ends_only (t ∷ rest) h = (out_of goes kinds t.text h).0
+      ends_only : (rest : List Placed) → Ends (goes ++ kinds) rest → Ends goes rest
+      ends_only [] h = tt
+      ends_only (t ∷ rest) h = (out_of goes kinds t.text h).0
 
   again_by : (b : Bool) (d : ℕ) (x : Option X) (before : List Placed) (t : Placed) (us : List Placed) → optional_by b read d (before ++ t ∷ us) ≡ reads (x, t ∷ us)
       → (e : ℕ) → d ≤ e → (vs : List Placed) → optional_by b read e (before ++ t ∷ vs) ≡ reads (x, t ∷ vs)

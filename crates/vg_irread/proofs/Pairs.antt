@@ -58,7 +58,6 @@ again_over i d x before (o ∷ over) t us h e l vs = i.again d x before o (over 
 module _ {A B X Y : Type 0} {sa : Spelling A X} {sb : A → Spelling B Y} {ka : List Kind} {ea : Bool} {ga : List Kind} {ra : Reader X}
     {kb : List Kind} {eb : Bool} {gb : List Kind} {next : X → Reader Y} (first : IsExact sa ka ea ga ra)
     (second : (x : X) (a : A) → IsTrue (sa.grammar a) → x ≡ sa.means a → IsExact (sb a) kb eb gb (next x)) (alone : apart ga kb ≡ true) where
-
   parts : (p : A × B) → IsTrue ((both sa sb).grammar p) → IsTrue (sa.grammar p.0) × IsTrue ((sb p.0).grammar p.1)
   parts p g = and_parts (sa.grammar p.0) ((sb p.0).grammar p.1) g
 
@@ -108,7 +107,7 @@ module _ {A B X Y : Type 0} {sa : Spelling A X} {sb : A → Spelling B Y} {ka : 
       let fb = front (sb p.0) p.1 in
       ap (λ z. (ra >>= next) d z) (ap (λ z. z ++ rest) (front_both p g) ∙ append_assoc (front sa p.0) fb rest)
       ∙ (bind_reads (ra d (front sa p.0 ++ (fb ++ rest))) (λ x. next x.0 d x.1) (sa.means p.0, fb ++ rest)
-          (first.complete p.0 q.0 d (max_first _ _ d n) (fb ++ rest) (ends_join eb ga kb gb fb rest alone (i.starts p.1 q.1) e))
+      (first.complete p.0 q.0 d (max_first _ _ d n) (fb ++ rest) (ends_join eb ga kb gb fb rest alone (i.starts p.1 q.1) e))
       ∙ i.complete p.1 q.1 d (max_second _ _ d n) rest (ends_second eb ga gb rest e))
 
   -- what was read is read again
@@ -167,7 +166,7 @@ module _ {A B X Y : Type 0} {sa : Spelling A X} {sb : A → Spelling B Y} {ka : 
         refuses = λ t others q e l us.
             let o : after ≡ r.before ++ t ∷ others = r.whole ∙ ap (λ z. r.before ++ z) q in
             let k : ra d (fa ++ (r.before ++ t ∷ others)) ≡ reads (x, r.before ++ t ∷ others) =
-                ap (ra d) (ap (λ z. fa ++ z) (sym o) ∙ sym f.whole) ∙ (h ∙ ap (λ z. reads (x, z)) o) in
+            ap (ra d) (ap (λ z. fa ++ z) (sym o) ∙ sym f.whole) ∙ (h ∙ ap (λ z. reads (x, z)) o) in
             tells_along _ _ (length us + 1) w
             (ap (λ z. (ra >>= next) e z) (append_assoc fa r.before (t ∷ us))
             ∙ bind_reads (ra e (fa ++ (r.before ++ t ∷ us))) (λ z. next z.0 e z.1) (x, r.before ++ t ∷ us) (again_over first d x fa r.before t others k e l us))

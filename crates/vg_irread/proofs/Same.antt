@@ -22,7 +22,6 @@ pub record Covers {T U X : Type 0} (s : Spelling T X) (r : Spelling U X) (t : T)
 module _ {T U X : Type 0} {s : Spelling T X} {r : Spelling U X} {kinds : List Kind} {empty : Bool} {goes : List Kind} {read : Reader X} (i : IsExact s kinds empty goes read)
     (forth : (t : T) → IsTrue (s.grammar t) → Covers s r t)
     (back : (u : U) → IsTrue (r.grammar u) → Covers r s u) where
-
   same_refused : (d : ℕ) (ts : List Placed) (n : ℕ) (w : Wanted) → Refused s read d ts n w → Refused r read d ts n w
   same_refused d ts n w f =
       let b = f.begun in

@@ -138,25 +138,25 @@ token_exact {T} {X} {slot = slot} {is = is} {value = value} {take = take} k w = 
   placed = placed;
 }
   where
-  sound : (d : ℕ) (ts : List Placed) (x : X) (rest : List Placed) → token_at take w d ts ≡ reads (x, rest) → Found (single slot is value) d ts x rest
-  sound d [] x rest h = leaves_not h
-  sound d (t ∷ us) x rest h = token_sound k w d (take t) t us x rest refl h
+    sound : (d : ℕ) (ts : List Placed) (x : X) (rest : List Placed) → token_at take w d ts ≡ reads (x, rest) → Found (single slot is value) d ts x rest
+    sound d [] x rest h = leaves_not h
+    sound d (t ∷ us) x rest h = token_sound k w d (take t) t us x rest refl h
 
-  again : (d : ℕ) (x : X) (before : List Placed) (t : Placed) (us : List Placed) → token_at take w d (before ++ t ∷ us) ≡ reads (x, t ∷ us)
-      → (e : ℕ) → d ≤ e → (vs : List Placed) → token_at take w e (before ++ t ∷ vs) ≡ reads (x, t ∷ vs)
-  again d x [] t us h e l vs = absurd (token_whole w (take t) x t us h)
-  again d x (b ∷ bs) t us h e l vs = token_again w (take b) x bs t us vs h
+    again : (d : ℕ) (x : X) (before : List Placed) (t : Placed) (us : List Placed) → token_at take w d (before ++ t ∷ us) ≡ reads (x, t ∷ us)
+        → (e : ℕ) → d ≤ e → (vs : List Placed) → token_at take w e (before ++ t ∷ vs) ≡ reads (x, t ∷ vs)
+    again d x [] t us h e l vs = absurd (token_whole w (take t) x t us h)
+    again d x (b ∷ bs) t us h e l vs = token_again w (take b) x bs t us vs h
 
-  placed : (d : ℕ) (ts : List Placed) (n : ℕ) (v : Wanted) → token_at take w d ts ≡ leaves n v → Refused (single slot is value) (token_at take w) d ts n v
-  placed d [] n v h = record {
-    before = [];
-    behind = [];
-    whole = refl;
-    count = (places 0 n w v h).0;
-    begun = (k.some, k.some_is, (slot k.some).lexeme ∷ [], refl);
-    refuses = λ t others e m l us. absurd (cc);
-  }
-  placed d (t ∷ us) n v h = token_refused k w d (take t) t us n v refl h
+    placed : (d : ℕ) (ts : List Placed) (n : ℕ) (v : Wanted) → token_at take w d ts ≡ leaves n v → Refused (single slot is value) (token_at take w) d ts n v
+    placed d [] n v h = record {
+      before = [];
+      behind = [];
+      whole = refl;
+      count = (places 0 n w v h).0;
+      begun = (k.some, k.some_is, (slot k.some).lexeme ∷ [], refl);
+      refuses = λ t others e m l us. absurd (cc);
+    }
+    placed d (t ∷ us) n v h = token_refused k w d (take t) t us n v refl h
 
 -- ---- nothing
 

@@ -75,14 +75,14 @@ pub type_sound : (role : Role) (w : Wanted) (d : ℕ) (ts : List Placed) (x : Ty
 type_sound role w d [] x rest h = leaves_not h
 type_sound role w d (t ∷ ts) x rest h = by_first (simple_type t.text) refl h
   where
-  by_first : (o : Option Ty) → simple_type t.text ≡ o → type_in o w d t ts ≡ reads (x, rest) → Found (a_type role) d (t ∷ ts) x rest
-  by_first (Some u) k m =
-      subst (λ (z : TypeAt × List Placed). Found (a_type role) d (t ∷ ts) z.0 z.1) (same_reads (record { ty = u; at = spot t.at; leaves = [] }, ts) (x, rest) m)
-      (found_simple role d t ts u (simple_sound t u k))
-  by_first None k m =
-      bind (bracketed_at (part_within d) w t ts) (λ p. reads (placed_type t.at p)) (x, rest) (Found (a_type role) d (t ∷ ts) x rest) m (λ p hp l.
-      subst (λ (z : TypeAt × List Placed). Found (a_type role) d (t ∷ ts) z.0 z.1) (same_reads (placed_type t.at p) (x, rest) l)
-      (found_bracketed role d t ts p.0 p.1 (bracketed_sound d (part_within d) (part_sound d) w t ts p hp)))
+    by_first : (o : Option Ty) → simple_type t.text ≡ o → type_in o w d t ts ≡ reads (x, rest) → Found (a_type role) d (t ∷ ts) x rest
+    by_first (Some u) k m =
+        subst (λ (z : TypeAt × List Placed). Found (a_type role) d (t ∷ ts) z.0 z.1) (same_reads (record { ty = u; at = spot t.at; leaves = [] }, ts) (x, rest) m)
+        (found_simple role d t ts u (simple_sound t u k))
+    by_first None k m =
+        bind (bracketed_at (part_within d) w t ts) (λ p. reads (placed_type t.at p)) (x, rest) (Found (a_type role) d (t ∷ ts) x rest) m (λ p hp l.
+        subst (λ (z : TypeAt × List Placed). Found (a_type role) d (t ∷ ts) z.0 z.1) (same_reads (placed_type t.at p) (x, rest) l)
+        (found_bracketed role d t ts p.0 p.1 (bracketed_sound d (part_within d) (part_sound d) w t ts p hp)))
 
 -- ---- what is spelled is read
 
@@ -139,11 +139,11 @@ unfolding part_within
 leaves_part w d [] n v h = let p = places 0 n w v h in ap (λ z. leaves z w) p.0 ∙ ap (λ z. leaves n z) p.1
 leaves_part w d (t ∷ ts) n v h = by_first (simple_type t.text) refl h
   where
-  by_first : (o : Option Ty) → simple_type t.text ≡ o → type_in o w d t ts ≡ leaves n v → part_within (suc d) w (t ∷ ts) ≡ leaves n v
-  by_first (Some u) k m = reads_not m
-  by_first None k m =
-      bind_leaves (bracketed_at (part_within d) w t ts) (λ p. reads (placed_type t.at p)) n v (part_within (suc d) w (t ∷ ts) ≡ leaves n v) m
-      (λ e. bracket_again d w t ts k ∙ e) (λ p hp l. reads_not l)
+    by_first : (o : Option Ty) → simple_type t.text ≡ o → type_in o w d t ts ≡ leaves n v → part_within (suc d) w (t ∷ ts) ≡ leaves n v
+    by_first (Some u) k m = reads_not m
+    by_first None k m =
+        bind_leaves (bracketed_at (part_within d) w t ts) (λ p. reads (placed_type t.at p)) n v (part_within (suc d) w (t ∷ ts) ≡ leaves n v) m
+        (λ e. bracket_again d w t ts k ∙ e) (λ p hp l. reads_not l)
 
 part_tells : (w : Wanted) (d : ℕ) (ts : List Placed) (n : ℕ) (v : Wanted) → Again (part_within (suc d) w ts) n v → Tells (type_at w d ts) n v
 unfolding part_within
@@ -151,14 +151,14 @@ part_tells w d [] n v (inl h) = let p = places 0 n w v h in inl (ap (λ z. leave
 part_tells w d [] n v (inr h) = absurd (cc)
 part_tells w d (t ∷ ts) n v h = by_first (simple_type t.text) refl h
   where
-  by_first : (o : Option Ty) → simple_type t.text ≡ o → Again (part_within (suc d) w (t ∷ ts)) n v → Tells (type_in o w d t ts) n v
-  by_first (Some u) k (inl m) = let e : part_within (suc d) w (t ∷ ts) ≡ reads (record { ty = u; leaves = spot t.at ∷ [] }, ts) = rw k refl in reads_not (sym e ∙ m)
-  by_first (Some u) k (inr m) =
-      let e : part_within (suc d) w (t ∷ ts) ≡ reads (record { ty = u; leaves = spot t.at ∷ [] }, ts) = rw k refl in
-      let z = sym e ∙ m in
-      absurd (cc)
-  by_first None k (inl m) = let e = sym (bracket_again d w t ts k) ∙ m in inl (rw e refl)
-  by_first None k (inr m) = let e = sym (bracket_again d w t ts k) ∙ m in inr (rw e refl)
+    by_first : (o : Option Ty) → simple_type t.text ≡ o → Again (part_within (suc d) w (t ∷ ts)) n v → Tells (type_in o w d t ts) n v
+    by_first (Some u) k (inl m) = let e : part_within (suc d) w (t ∷ ts) ≡ reads (record { ty = u; leaves = spot t.at ∷ [] }, ts) = rw k refl in reads_not (sym e ∙ m)
+    by_first (Some u) k (inr m) =
+        let e : part_within (suc d) w (t ∷ ts) ≡ reads (record { ty = u; leaves = spot t.at ∷ [] }, ts) = rw k refl in
+        let z = sym e ∙ m in
+        absurd (cc)
+    by_first None k (inl m) = let e = sym (bracket_again d w t ts k) ∙ m in inl (rw e refl)
+    by_first None k (inr m) = let e = sym (bracket_again d w t ts k) ∙ m in inr (rw e refl)
 
 -- the place is one at each greater depth
 local_at : (w : Wanted) (d : ℕ) (ts : List Placed) (n : ℕ) (v : Wanted) → part_within (suc d) w ts ≡ leaves n v → (before behind : List Placed) → ts ≡ before ++ behind → length behind ≡ n

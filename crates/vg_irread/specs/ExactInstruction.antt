@@ -12,7 +12,7 @@ use Rattle.vg_irparse.specs.ExactType.{nesting}
 use Rattle.vg_irread.specs.Kinds.{Kind, local}
 use Rattle.vg_irread.specs.Reading.{Reader, ◌>>=◌}
 use Rattle.vg_irread.specs.ReadingOperand.{result_name_at}
-use Rattle.vg_irread.specs.ReadingInstruction.{binary_at, compare_at, select_at, cast_at, freeze_at}
+use Rattle.vg_irread.specs.ReadingInstruction.{binary_at, compare_at, select_at, cast_at, freeze_at, operation_at}
 use Rattle.vg_irread.specs.Exact.{Spelling, IsExact}
 
 -- flags of these words, in this order
@@ -80,3 +80,15 @@ CastIsExact = FormIsExact is_cast_tree (result_name_at >>= cast_at)
 
 abbrev pub FreezeIsExact : Type 0
 FreezeIsExact = FormIsExact is_freeze (result_name_at >>= freeze_at)
+
+-- an instruction of one of these forms
+abbrev pub is_operation : InstructionTree → Bool
+is_operation (binary r op flags t left comma right) = true
+is_operation (compare r at samesign predicate t left comma right) = true
+is_operation (select r at bit condition comma then second_comma otherwise) = true
+is_operation (cast r op flags from at_to to) = true
+is_operation (freeze r at from) = true
+is_operation _ = false
+
+abbrev pub OperationIsExact : Type 0
+OperationIsExact = FormIsExact is_operation (result_name_at >>= operation_at)

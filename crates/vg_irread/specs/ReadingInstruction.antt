@@ -17,7 +17,8 @@ use Rattle.vg_irparse.specs.Text.{spot}
 use Rattle.vg_irparse.specs.Answer.{reads}
 use Rattle.vg_irparse.specs.ReadingType.{wanted, behind_type}
 use Rattle.vg_irparse.specs.Words.{entry_of, operator_words, operator_flags, cast_words, cast_flags, predicate_words}
-use Rattle.vg_irread.specs.Reading.{Reader, done, token_at, ◌>>=◌}
+use Rattle.vg_irread.specs.Kinds.{words}
+use Rattle.vg_irread.specs.Reading.{Reader, done, token_at, either_at, ◌>>=◌}
 use Rattle.vg_irread.specs.ReadingType.{type_at}
 use Rattle.vg_irread.specs.ReadingOperand.{behind, sign_at, operand_at, value_type_at, value_at, any_typed_at}
 
@@ -30,11 +31,11 @@ skipped_word word (t ∷ ts) = cond (bytes_eq t.text word) ts (t ∷ ts)
 
 abbrev pub skipped_words : List (List ℕ) → List Placed → List Placed
 skipped_words [] ts = ts
-skipped_words (word ∷ words) ts = skipped_words words (skipped_word word ts)
+skipped_words (word ∷ ws) ts = skipped_words ws (skipped_word word ts)
 
 -- words that may lack, in this order
 abbrev pub flags_at : List (List ℕ) → Reader (Unit {0})
-flags_at words d ts = reads (tt, skipped_words words ts)
+flags_at ws d ts = reads (tt, skipped_words ws ts)
 
 -- ---- words of tables
 
@@ -135,3 +136,18 @@ freeze_at result = do
   at ← sign_at (codes "freeze") (wanted roles.Operation)
   from ← value_at (wanted roles.ValueType)
   done (instructions.Freeze (record { at = spot at; result = result; operand = from }))
+
+-- ---- by the word
+
+-- the words of a table
+abbrev pub words_of : {X : Type 0} → List (List ℕ × X) → List (List ℕ)
+words_of [] = []
+words_of (e ∷ es) = e.0 ∷ words_of es
+
+-- behind %r = an instruction of one of the forms above
+abbrev pub operation_at : NameAt → Reader Instruction
+operation_at result =
+    either_at (words (words_of operator_words) ∷ []) (binary_at result)
+    (either_at (words (words_of cast_words) ∷ []) (cast_at result)
+    (either_at (words (codes "icmp" ∷ []) ∷ []) (compare_at result)
+    (either_at (words (codes "select" ∷ []) ∷ []) (select_at result) (freeze_at result))))

@@ -10,7 +10,7 @@ ghost use Rattle.vg_irread.specs.ReadingInstruction;
 use crate::operand::{any_typed_at, operand_at, sign_at, value_at};
 use crate::place::{behind, spot, wanted};
 use crate::types::{any_type_at, value_type_at};
-use crate::word::{cast_of, operator_of, predicate_of};
+use crate::word::{cast_of, is_cast, is_operator, is_word, operator_of, predicate_of};
 use sqlite_items::Boxed;
 use std::alloc::Global;
 use vg_ir::{
@@ -55,11 +55,7 @@ fn skipped_word<'a>(word: &[u8], text: &[u8], tokens: &'a [Lexeme]) -> &'a [Lexe
 }
 
 /// What stands behind the flags of an operator.
-fn skipped_flags<'a>(
-    operator: BinaryOperator,
-    text: &[u8],
-    tokens: &'a [Lexeme],
-) -> &'a [Lexeme]
+fn skipped_flags<'a>(operator: BinaryOperator, text: &[u8], tokens: &'a [Lexeme]) -> &'a [Lexeme]
     ensures { placed text.now result.now ≡ ReadingInstruction.skipped_words (operator_flags operator) (placed text.now tokens.now) }
 {
     match operator {
@@ -67,10 +63,8 @@ fn skipped_flags<'a>(
             let rest = skipped_word(b"nuw", text, tokens);
             skipped_word(b"nsw", text, rest)
         }
-        BinaryOperator::Udiv
-        | BinaryOperator::Sdiv
-        | BinaryOperator::Lshr
-        | BinaryOperator::Ashr => skipped_word(b"exact", text, tokens),
+        BinaryOperator::Udiv | BinaryOperator::Sdiv | BinaryOperator::Lshr | BinaryOperator::Ashr =>
+            skipped_word(b"exact", text, tokens),
         BinaryOperator::Urem
         | BinaryOperator::Srem
         | BinaryOperator::And
@@ -150,11 +144,7 @@ fn predicate_at<'a>(
 }
 
 /// What stands behind the flags of a cast.
-fn skipped_cast_flags<'a>(
-    operator: CastOperator,
-    text: &[u8],
-    tokens: &'a [Lexeme],
-) -> &'a [Lexeme]
+fn skipped_cast_flags<'a>(operator: CastOperator, text: &[u8], tokens: &'a [Lexeme]) -> &'a [Lexeme]
     ensures { placed text.now result.now ≡ ReadingInstruction.skipped_words (cast_flags operator) (placed text.now tokens.now) }
 {
     match operator {
@@ -277,4 +267,32 @@ fn freeze_at<'a>(
         operand,
     };
     Ok((Instruction::Freeze(Boxed::new(alloc, freeze)?), rest))
+}
+
+/// The instruction behind `%r =`, by its word.
+pub(crate) fn operation_at<'a>(
+    alloc: Global,
+    name: NameAt,
+    text: &[u8],
+    tokens: &'a [Lexeme],
+) -> Result<(Instruction, &'a [Lexeme]), Stop>
+    ensures { Gives (λ x. (x.0, placed text.now x.1.now)) result (ReadingInstruction.operation_at name most_brackets (placed text.now tokens.now)) }
+{
+    let Some((first, _)) = tokens.split_first() else {
+        return freeze_at(alloc, name, text, tokens);
+    };
+    let word = piece(text, *first);
+    if is_operator(word) {
+        return binary_at(alloc, name, text, tokens);
+    }
+    if is_cast(word) {
+        return cast_at(alloc, name, text, tokens);
+    }
+    if is_word(b"icmp", word) {
+        return compare_at(alloc, name, text, tokens);
+    }
+    if is_word(b"select", word) {
+        return select_at(alloc, name, text, tokens);
+    }
+    freeze_at(alloc, name, text, tokens)
 }

@@ -1,5 +1,5 @@
 ghost use Rattle.vg_irread.specs.ExactOperand.{TypesAreExact, ResultNamesAreExact, OperandsAreExact, TypedAreExact, ValuesAreExact};
-ghost use Rattle.vg_irread.specs.ExactInstruction.{BinaryIsExact, CompareIsExact, SelectIsExact, CastIsExact, FreezeIsExact};
+ghost use Rattle.vg_irread.specs.ExactInstruction.{BinaryIsExact, CompareIsExact, SelectIsExact, CastIsExact, FreezeIsExact, OperationIsExact};
 
 /// What is read as a type, a name or an operand is one of the grammar that the lexemes in front spell; each one is read, where
 /// it ends; and where one is refused, the lexemes leave the grammar.
@@ -18,4 +18,5 @@ pub fn exact_instructions()
     ensures select { SelectIsExact }
     ensures cast { CastIsExact }
     ensures freeze { FreezeIsExact }
+    ensures by_word { OperationIsExact }
 {}

@@ -1,9 +1,10 @@
 //! The words that are operators and values.
 
-ghost use Rattle.std.specs.Prelude.{◌≡◌};
+ghost use Rattle.std.specs.Prelude.{◌≡◌, ◌∷◌, []};
 ghost use Rattle.vg_irparse.specs.Rows.{texts};
 ghost use Rattle.vg_irparse.specs.Words.{entry_of, is_one_of, operator_words, cast_words, predicate_words, constant_words};
 ghost use Rattle.vg_irparse.specs.Tree.{constant_values};
+ghost use Rattle.vg_irread.specs.ReadingInstruction.{words_of};
 
 use vg_ir::{BinaryOperator, CastOperator, Predicate, Value};
 use vg_irparse::{entry_of, is_one_of};
@@ -93,4 +94,39 @@ pub(crate) fn predicate_of(text: &[u8]) -> Option<Predicate>
     ensures { result ≡ entry_of predicate_words text.now }
 {
     entry_of(&PREDICATES, text)
+}
+
+const OPERATOR_WORDS: [&[u8]; 13] = [
+    b"add", b"sub", b"mul", b"udiv", b"sdiv", b"urem", b"srem", b"shl", b"lshr", b"ashr", b"and",
+    b"or", b"xor",
+];
+
+/// The words of the instructions with two operands.
+pub(crate) fn is_operator(text: &[u8]) -> bool
+    ensures { result ≡ is_one_of (words_of operator_words) text.now }
+{
+    is_one_of(&OPERATOR_WORDS, text)
+}
+
+const CAST_WORDS: [&[u8]; 6] = [
+    b"zext",
+    b"sext",
+    b"trunc",
+    b"ptrtoint",
+    b"inttoptr",
+    b"bitcast",
+];
+
+/// The words of the casts.
+pub(crate) fn is_cast(text: &[u8]) -> bool
+    ensures { result ≡ is_one_of (words_of cast_words) text.now }
+{
+    is_one_of(&CAST_WORDS, text)
+}
+
+/// Whether a text is this word.
+pub(crate) fn is_word(word: &[u8], text: &[u8]) -> bool
+    ensures { result ≡ is_one_of (word.now ∷ []) text.now }
+{
+    word == text
 }
