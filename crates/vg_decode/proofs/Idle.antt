@@ -16,15 +16,12 @@ use Rattle.vg_isa.proofs.Tests.{both}
 
 -- ---- the format
 
--- the widths that a machine may have
 abbrev pub IsMachineWidth : ℕ → Type 0
 IsMachineWidth n = (n ≡ 16) ⊎ ((n ≡ 32) ⊎ (n ≡ 64))
 
--- a machine width is one of three
 pub machine_width : (n : ℕ) → IsTrue (is_machine_width n) → IsMachineWidth n
 machine_width n is = grind (arith, nat_tests)
 
--- what holds of the three holds of each
 pub by_width : (P : ℕ → Type 0) (n : ℕ) → IsMachineWidth n → P 16 → P 32 → P 64 → P n
 by_width P n is small middle large =
     elim is [ inl e ↦ subst P (sym e) small | inr w ↦ elim w [ inl e ↦ subst P (sym e) middle | inr e ↦ subst P (sym e) large ] ]
@@ -33,7 +30,6 @@ by_width P n is small middle large =
 abbrev halves : ℕ → List (ℕ × ℕ)
 halves word = (8, 0) ∷ (word - 1, 9) ∷ []
 
--- a format of these two fields names each bit once
 pub covered : (word : ℕ) (name : List ℕ) (x y : FieldDecl) → IsTrue (is_machine_width word) → x.ranges ≡ (8, 0) ∷ [] → y.ranges ≡ (word - 1, 9) ∷ [] → IsTrue (is_format word (record { name = name; fields = x ∷ y ∷ [] }))
 covered word name x y is low high =
     let cover : (are_in_word word (halves word) && is_cover word (halves word)) ≡ true =
@@ -59,7 +55,6 @@ idle fixed = record {
   read_spot = None;
 }
 
--- an instruction that fixes nothing keeps the rules
 pub free_kept : (d : Parts) (f : Format) → d.formats ≡ f ∷ [] → IsTrue (is_instr d (idle []))
 unfolding is_instr
 free_kept d f is = rw is refl
@@ -74,7 +69,6 @@ fixed_kept d f index high low width number is ranges fit =
     let one : ranges_of d (field_at index) ≡ (high, low) ∷ [] = rw is ranges in
     rw one fit
 
--- so does one that fixes a field as it should
 pub fixing_kept : (d : Parts) (f : Format) (fix : FieldId × BitValue) → d.formats ≡ f ∷ [] → IsTrue (is_fixed d (record { 0 = 0 }) fix) → IsTrue (is_instr d (idle (fix ∷ [])))
 unfolding is_instr
 fixing_kept d f fix is fits = rw (fits, is) refl
