@@ -17,10 +17,9 @@ pub mod TypedLemmas
 pub mod TypedNodes
 pub mod TypedTrees
 mod MadeLemmas
-mod ResourceLemmas
+pub mod ResourceLemmas
 pub mod SameLemmas
 pub mod EncodingLemmas
 pub mod DifferLemmas
 pub mod AbiLemmas
-pub mod ResourceLemmas
 mod FormatLemmas
