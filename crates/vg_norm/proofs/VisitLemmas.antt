@@ -17,7 +17,7 @@ use Rattle.vg_graph.specs.Tree.{HaveTrees, IsOperand, IsTree}
 use Rattle.vg_graph.specs.Graph.{GraphValue, IsFit, IsGraph}
 use Rattle.vg_graph.specs.Building.{Extends}
 use Rattle.vg_graph.specs.Alike.{Alike, chained, same as alike_same, within as alike_within}
-use Rattle.vg_graph.proofs.Gets.{gets-set_other, gets-set_same, gets-pushed, In-append, In-append_left, In-append_right, In-one, one-In}
+use Rattle.vg_graph.proofs.Gets.{gets-set_other, gets-set_same, gets-pushed, In-append, In-append_left, In-append_right, In-one, nil-In, one-In}
 use Rattle.vg_graph.proofs.BehaviourLemmas.{Extends_itself}
 use Rattle.vg_graph.proofs.BuildLemmas.{Extends-trans}
 use Rattle.vg_graph.proofs.LevelLemmas.{args_of-node, map_map, node_of-same, operands_in-map}
@@ -25,10 +25,11 @@ use Rattle.vg_graph.proofs.TreeLemmas.{below_each, forest, level_of_tree, tree_s
 use Rattle.vg_norm.specs.declared.growing.Growing.{Growing}
 use Rattle.vg_norm.specs.declared.visit.Visit.{Visit}
 use Rattle.vg_norm.specs.Growing.{IsGrowing, StandBelow, StandsFor}
-use Rattle.vg_norm.specs.Images.{AreImages, AreNodes, HasImage, HasMoreImages, IsDone, IsOverImages, IsVisit, closed}
+use Rattle.vg_norm.specs.Images.{AreImages, AreNodes, HasImage, HasMoreImages, IsDone, IsOverImages, IsPath, IsUnderWay, IsVisit, IsWalk, closed}
 use Rattle.vg_norm.proofs.AlikeLemmas.{alike_typed}
 use Rattle.vg_norm.proofs.NormalLemmas.{alike3, at3}
 use Rattle.vg_norm.proofs.GrowingLemmas.{tree_was}
+use Rattle.vg_norm.proofs.PathLemmas.{path_new}
 
 -- ---- a level over the images of its operands
 
@@ -218,7 +219,7 @@ operands_below g n node graph at =
 pub operand_below : (g : GraphValue) (n k : ℕ) → IsGraph g → IsOperand g.nodes k n → k < length g.nodes
 operand_below g n k graph is = below_each (length g.nodes) (args_of is.node) (operands_below g n is.node graph is.stands) k is.among
 
-pub node_fits : (g : GraphValue) (v : Visit) (n : ℕ) (node new : Node) → IsGraph g → IsVisit g v → slice_get g.nodes n ≡ Some node → IsOverImages v.images.items node new → IsFit v.fresh.graph new
+pub node_fits : (g : GraphValue) (v : Visit) (n : ℕ) (node new : Node) → IsGraph g → IsWalk g v → slice_get g.nodes n ≡ Some node → IsOverImages v.images.items node new → IsFit v.fresh.graph new
 node_fits g v n node new graph visit at is =
     let x = level_at g n node graph at in
     image_fits g v.fresh.graph v.images.items visit.each n x.0 new graph visit.isa (at ∙ ap Some x.1) (subst (λ (m : Node). IsOverImages v.images.items m new) x.1 is)
@@ -227,7 +228,7 @@ node_fits g v n node new graph visit at is =
 pub visit_advanced :
     (g : GraphValue) (v w : Visit) (n j : ℕ) (node new : Node)
     → IsGraph g
-    → IsVisit g v
+    → IsWalk g v
     → slice_get g.nodes n ≡ Some node
     → IsOverImages v.images.items node new
     → IsGrowing w.fresh
@@ -235,7 +236,7 @@ pub visit_advanced :
     → StandsFor v.fresh.graph new w.fresh.graph j
     → w.images.items ≡ set v.images.items n (Some j)
     → w.opened.items ≡ v.opened.items
-    → IsVisit g w
+    → IsWalk g w
 visit_advanced g v w n j node new graph visit at is growing more stands images opened =
     let x = level_at g n node graph at in
     let made : HasImage g n w.fresh.graph j = image_made g v.fresh.graph v.images.items visit.each n x.0 new w.fresh.graph j visit.growing.graph visit.isa (at ∙ ap Some x.1) (subst (λ (m : Node). IsOverImages v.images.items m new) x.1 is) stands in
@@ -325,7 +326,7 @@ pub read_image : (images : List (Option ℕ)) (n j : ℕ) (read : Option ℕ) �
 read_image images n j read below is at = slice_get-get_or images n read below ∙ ap Some (sym is ∙ at)
 
 -- a node is gone into
-pub visit_entered : (g : GraphValue) (v w : Visit) (k : ℕ) → IsVisit g v → w.fresh ≡ v.fresh → w.images ≡ v.images → w.opened.items ≡ set v.opened.items k true → IsVisit g w
+pub visit_entered : (g : GraphValue) (v w : Visit) (k : ℕ) → IsWalk g v → w.fresh ≡ v.fresh → w.images ≡ v.images → w.opened.items ≡ set v.opened.items k true → IsWalk g w
 visit_entered g v w k visit fresh images opened = record {
   growing = subst IsGrowing (sym fresh) visit.growing;
   isa = ap (λ (f : Growing). f.graph.isa) fresh ∙ visit.isa;
@@ -368,3 +369,65 @@ less_stacked opened advanced stack rest n same_opened popped =
     let fewer : closed advanced ≡ closed opened = ap closed same_opened in
     let stack_length : length stack ≡ length rest + 1 = ap length popped ∙ length-append rest (n ∷ []) in
     omega arith
+
+-- no node was gone into at first
+pub none_opened : (count k : ℕ) → slice_get (replicate count false) k ≡ Some true → ⊥
+none_opened zero k at = none-some true at
+none_opened (suc count) zero at = absurd (let h : false ≡ true = same_Some false true at in cc)
+none_opened (suc count) (suc k) at = none_opened count k at
+
+-- what has no image has none
+pub not_done : (images : List (Option ℕ)) (k : ℕ) → slice_get images k ≡ Some None → IsDone images k → ⊥
+not_done images k at done = none-some done.0 (same_Some None (Some done.0) (sym at ∙ done.1))
+
+-- a visit, where each node that was gone into has its image
+pub walk_of : (g : GraphValue) (v : Visit) → IsVisit g v → IsWalk g v
+walk_of g v visit = record { growing = visit.growing; isa = visit.isa; images = visit.images; open_nodes = visit.open_nodes; each = visit.each }
+
+pub visit_of : (g : GraphValue) (v : Visit) (stack : List ℕ) → IsWalk g v → IsUnderWay v stack → stack ≡ [] → IsVisit g v
+visit_of g v stack walk under empty = record {
+  growing = walk.growing;
+  isa = walk.isa;
+  images = walk.images;
+  open_nodes = walk.open_nodes;
+  each = walk.each;
+  settled = λ k opened. elim (under k opened) [
+    | inl done ↦ done
+    | inr among ↦ absurd (nil-In k (subst (λ (ns : List ℕ). IsIn ns k) empty among))
+  ];
+}
+
+-- the node that is gone into is on the way
+pub under_pushed : (v a w : Visit) (stack rest once twice : List ℕ) (n k : ℕ) → k < length a.opened.items → HasMoreImages v w → IsUnderWay v stack → a.opened.items ≡ v.opened.items → w.opened.items ≡ set a.opened.items k true → stack ≡ rest ++ n ∷ [] → once ≡ rest ++ n ∷ [] → twice ≡ once ++ k ∷ [] → IsUnderWay w twice
+under_pushed v a w stack rest once twice n k inside more under opened entering popped first second m at = elim (eqb_tells m k) [
+  | inl (_, is) ↦ inr (subst (λ (ns : List ℕ). IsIn ns m) (sym second) (subst (λ (j : ℕ). IsIn (once ++ k ∷ []) j) (sym is) (In-append_right once (k ∷ []) k (In-one k))))
+  | inr (_, differ) ↦
+      let there : slice_get v.opened.items m ≡ Some true = ap (λ (bs : List Bool). slice_get bs m) (sym opened) ∙ sym (gets-set_other a.opened.items k m true differ) ∙ ap (λ (bs : List Bool). slice_get bs m) (sym entering) ∙ at in
+      elim (under m there) [
+        | inl done ↦ inl (more.stay m done)
+        | inr among ↦ inr (subst (λ (ns : List ℕ). IsIn ns m) (sym second) (In-append_left once (k ∷ []) m (subst (λ (ns : List ℕ). IsIn ns m) (popped ∙ sym first) among)))
+      ]
+]
+
+-- a node that has its image is on the way no more
+pub under_popped : (v w : Visit) (stack rest : List ℕ) (n : ℕ) → HasMoreImages v w → IsUnderWay v stack → w.opened.items ≡ v.opened.items → stack ≡ rest ++ n ∷ [] → IsDone w.images.items n → IsUnderWay w rest
+under_popped v w stack rest n more under opened popped now m at = found_popped v w stack rest m n more (under m (ap (λ (bs : List Bool). slice_get bs m) (sym opened) ∙ at)) popped now
+
+-- an operand without an image was never gone into
+pub never_opened : (g : GraphValue) (v a : Visit) (stack rest : List ℕ) (n k : ℕ) → IsGraph g → IsWalk g a → HasMoreImages v a → IsUnderWay v stack → IsPath g.nodes stack → a.opened.items ≡ v.opened.items → stack ≡ rest ++ n ∷ [] → IsOperand g.nodes k n → slice_get a.images.items k ≡ Some None → slice_get a.opened.items k ≡ Some false
+never_opened g v a stack rest n k graph walk more under path opened popped operand lacks = by (get_or a.opened.items k false) (slice_get-get_or a.opened.items k false inside)
+  where
+    inside : k < length a.opened.items
+    inside = subst (λ (count : ℕ). k < count) (sym walk.open_nodes) (operand_below g n k graph operand)
+
+    never : slice_get a.opened.items k ≡ Some true → ⊥
+    never at = elim (under k (ap (λ (bs : List Bool). slice_get bs k) (sym opened) ∙ at)) [
+      | inl done ↦ not_done a.images.items k lacks (more.stay k done)
+      | inr among ↦
+          let has = graph.trees k (operand_below g n k graph operand) in
+          path_new g.nodes rest n k has.tree (subst (λ (ns : List ℕ). IsPath g.nodes ns) popped path) operand has.stands (subst (λ (ns : List ℕ). IsIn ns k) popped among)
+    ]
+
+    by : (b : Bool) → slice_get a.opened.items k ≡ Some b → slice_get a.opened.items k ≡ Some false
+    by true at = absurd (never at)
+    by false at = at

@@ -1,5 +1,5 @@
 -- The images of the nodes of a graph in one in normal form.
-use Rattle.std.specs.Prelude.{◌≡◌, ℕ, ◌<◌, Bool, List, [], ◌∷◌, length, Option, Some, None, slice_get, if◌then◌else◌, sum_by}
+use Rattle.std.specs.Prelude.{◌≡◌, ℕ, ◌<◌, ◌⊎◌, Bool, true, List, [], ◌∷◌, length, Option, Some, None, slice_get, if◌then◌else◌, sum_by}
 use Rattle.vg_isa.specs.declared.expr.Expr.{Expr}
 use Rattle.vg_graph.specs.declared.node.Node.{Node}
 use Rattle.vg_graph.specs.declared.roots.WriteRoots.{WriteRoots}
@@ -59,32 +59,51 @@ pub record IsOverImages (images : List (Option ℕ)) (node new : Node) : Type 0 
   pub op : new.op ≡ node.op
   pub args : AreImages images (args_of node) (args_of new)
 
--- an operand that may have no image yet; or the node over the images of its operands
+-- an operand that has no image yet; or the node over the images of its operands
 abbrev pub IsStep : List (Option ℕ) → Node → Step → Type 0
-IsStep images node (Wait k) = IsIn (args_of node) k
+IsStep images node (Wait k) = IsIn (args_of node) k × (slice_get images k ≡ Some None)
 IsStep images node (Ready new) = IsOverImages images node new
 
--- images of nodes of a graph in a graph in normal form
-pub record IsVisit (g : GraphValue) (visit : Visit) : Type 0 where
+-- images of nodes of a graph in a graph in normal form, on the way
+pub record IsWalk (g : GraphValue) (visit : Visit) : Type 0 where
   pub growing : IsGrowing visit.fresh
   pub isa : visit.fresh.graph.isa ≡ g.isa
   pub images : length visit.images.items ≡ length g.nodes
   pub open_nodes : length visit.opened.items ≡ length g.nodes
   pub each : (k j : ℕ) → slice_get visit.images.items k ≡ Some (Some j) → HasImage g k visit.fresh.graph j
 
+-- the same, where each node that was gone into has its image
+pub record IsVisit (g : GraphValue) (visit : Visit) : Type 0 where
+  pub growing : IsGrowing visit.fresh
+  pub isa : visit.fresh.graph.isa ≡ g.isa
+  pub images : length visit.images.items ≡ length g.nodes
+  pub open_nodes : length visit.opened.items ≡ length g.nodes
+  pub each : (k j : ℕ) → slice_get visit.images.items k ≡ Some (Some j) → HasImage g k visit.fresh.graph j
+  pub settled : (k : ℕ) → slice_get visit.opened.items k ≡ Some true → IsDone visit.images.items k
+
 -- the images of a visit that went on
 pub record HasMoreImages (old new : Visit) : Type 0 where
   pub extends : Extends old.fresh.graph new.fresh.graph
   pub stay : (n : ℕ) → IsDone old.images.items n → IsDone new.images.items n
 
--- the node has its image; or an operand of it may have none yet
+-- the node has its image; or an operand of it has none yet
 abbrev pub IsAdvanced : GraphValue → ℕ → Visit → Option ℕ → Type 0
 IsAdvanced g n new None = IsDone new.images.items n
-IsAdvanced g n new (Some k) = IsOperand g.nodes k n
+IsAdvanced g n new (Some k) = IsOperand g.nodes k n × (slice_get new.images.items k ≡ Some None)
 
 -- how many nodes were never gone into
 abbrev pub closed : List Bool → ℕ
 closed opened = sum_by (λ (b : Bool). if b then 0 else 1) opened
+
+-- a way from nodes to their operands
+abbrev pub IsPath : List Node → List ℕ → Type 0
+IsPath nodes [] = Unit {0}
+IsPath nodes (n ∷ []) = Unit {0}
+IsPath nodes (n ∷ k ∷ ks) = IsOperand nodes k n × IsPath nodes (k ∷ ks)
+
+-- a node that was gone into has its image, or is on the way
+abbrev pub IsUnderWay : Visit → List ℕ → Type 0
+IsUnderWay visit stack = (k : ℕ) → slice_get visit.opened.items k ≡ Some true → IsDone visit.images.items k ⊎ IsIn stack k
 
 -- the nodes are nodes of the graph
 abbrev pub AreNodes : GraphValue → List ℕ → Type 0

@@ -14,10 +14,9 @@
 //!
 //! **How.** A fresh graph is built: the nodes that the roots use are gone into from a stack, operands first, and the image
 //! of each is added to the fresh graph, with its width at hand (`Growing`). A cast that changes nothing has the image of
-//! its operand. Each node is gone into once, so the time is linear; a behaviour may be deep.
+//! its operand. Each node is gone into once, since no node uses itself: so the time is linear. A behaviour may be deep.
 //!
-//! **Limits.** Those of vg_graph. Nodes that no root uses are left behind. That a walk never finds a node that it is
-//! within, since no node uses itself, is not proved of the code: it would stop there as if memory lacked.
+//! **Limits.** Those of vg_graph. Nodes that no root uses are left behind.
 //!
 //! ```text
 //! normal(alloc, &mut graph)?;     // of `X(1) + X(2)` and `X(2) + X(1)` one node is left

@@ -2,7 +2,7 @@ ghost use Rattle.std.specs.Prelude.{◌≡◌, ◌<◌, false, true, length, rep
 ghost use Rattle.vg_graph.specs.Node.{AllBelow, args_of};
 ghost use Rattle.vg_graph.specs.declared.operands.Operands.TheVariants as args;
 ghost use Rattle.vg_graph.specs.Graph.{IsGraph};
-ghost use Rattle.vg_norm.specs.Images.{HasImage, HasMoreImages, IsAdvanced, IsStep, IsVisit};
+ghost use Rattle.vg_norm.specs.Images.{HasImage, HasMoreImages, IsAdvanced, IsStep, IsVisit, IsWalk};
 
 use crate::growing::Growing;
 use std::alloc::{AllocError, Global};
@@ -144,9 +144,9 @@ impl<'a> Visit<'a> {
     /// Makes the image of a node, if its operands have theirs; else tells one that has none.
     fn advance(&mut self, g: &Graph<'a>, n: u32) -> Result<Option<u32>, AllocError>
         requires graph { IsGraph g.now }
-        requires visit { IsVisit g.now self.old }
+        requires visit { IsWalk g.now self.old }
         requires within { n < length g.now.nodes }
-        ensures visit { OnOk result (IsVisit g.now self.new) }
+        ensures visit { OnOk result (IsWalk g.now self.new) }
         ensures more { OnOk result (HasMoreImages self.old self.new) }
         ensures opened { self.new.opened.items ≡ self.old.opened.items }
         ensures advanced { IfOk result (λ k. IsAdvanced g.now n self.new k) }
@@ -161,20 +161,14 @@ impl<'a> Visit<'a> {
         }
     }
 
-    /// Notes that a node is gone into.
-    fn enter(&mut self, k: u32) -> Result<(), AllocError>
-        requires { k < length self.old.opened.items }
+    /// Notes that a node is gone into, which it never was.
+    fn enter(&mut self, k: u32)
+        requires { slice_get self.old.opened.items k ≡ Some false }
         ensures fresh { self.new.fresh ≡ self.old.fresh }
         ensures images { self.new.images ≡ self.old.images }
-        ensures was { OnOk result (slice_get self.old.opened.items k ≡ Some false) }
-        ensures opened { OnOk result (self.new.opened.items ≡ slice_set self.old.opened.items k true) }
+        ensures opened { self.new.opened.items ≡ slice_set self.old.opened.items k true }
     {
-        // It is gone into once, since no node uses itself. So the walk along the graph ends.
-        if self.opened[k as usize] {
-            return Err(AllocError);
-        }
         self.opened[k as usize] = true;
-        Ok(())
     }
 
     /// The image of a node.
@@ -191,7 +185,7 @@ impl<'a> Visit<'a> {
         while let Some(n) = stack.pop() {
             let waiting = self.advance(g, n)?;
             if let Some(k) = waiting {
-                self.enter(k)?;
+                self.enter(k);
                 stack.push(n)?;
                 stack.push(k)?;
             }

@@ -1,11 +1,13 @@
 use Rattle.std.proofs.Common.{ℕ, ◌+◌, ◌*◌, ◌⊎◌, length}
 use Rattle.vg_graph.specs.Node.{IsIn}
-use Rattle.vg_norm.specs.Images.{AreNodes, HasMoreImages, IsDone, IsVisit, closed}
+use Rattle.vg_norm.specs.Images.{AreNodes, HasMoreImages, IsDone, IsPath, IsUnderWay, IsWalk, closed}
 use Rattle.vg_norm.proofs.visit.Visit.image.Given as goal
 
 abbrev pub invariant-loop-n : goal.invariant-loop-n
 invariant-loop-n l = record {
-  visit : IsVisit l.g l.self;
+  visit : IsWalk l.g l.self;
+  under : IsUnderWay l.self l.stack.items;
+  path : IsPath l.g.nodes l.stack.items;
   more : HasMoreImages l.initial.self l.self;
   nodes : AreNodes l.g l.stack.items;
   found : IsDone l.self.images.items l.root ⊎ IsIn l.stack.items l.root;
