@@ -1,12 +1,11 @@
 -- Sets of kinds that are apart have no lexeme in common.
-use Rattle.std.proofs.Common.{◌≡◌, ◌⊎◌, ℕ, ◌<◌, ◌≤◌, Bool, true, false, not, ◌&&◌, ◌||◌, ◌==◌, nat_lt, nat_le, cond, List, [], ◌∷◌, ◌++◌, map, refl, sym, ap, subst, ◌∙◌, arith, inl, inr}
+use Rattle.std.proofs.Common.{◌≡◌, ◌⊎◌, ℕ, Bool, true, false, not, ◌&&◌, ◌||◌, ◌==◌, nat_lt, nat_le, cond, List, [], ◌∷◌, ◌++◌, refl, sym, ap, subst, ◌∙◌, arith, inl, inr}
 use Rattle.std.proofs.lemmas.Bool.{and_parts, or_cases, both_ways, not-true}
 use Rattle.std.proofs.lemmas.Bool.Decides.{nat_tests}
 use Rattle.std.proofs.lemmas.Slice.Eq.{bytes_eq-Decides}
 use Rattle.std.specs.List.{list_all}
-use Rattle.std.specs.Str.{bytes_eq}
-use Rattle.std.specs.Char.{is_ascii_alphabetic, is_ascii_digit}
-use Rattle.vg_irlex.specs.Lexing.{are_digits, is_bare_name, is_quoted, ends_quote, is_word_name, may_start_name, may_continue_name}
+use Rattle.std.specs.Char.{is_ascii_digit}
+use Rattle.vg_irlex.specs.Lexing.{are_digits, is_quoted, ends_quote, is_word_name, may_start_name, may_continue_name}
 use Rattle.vg_irparse.specs.Text.{is_local, is_global, is_group, is_number, is_label}
 use Rattle.vg_irparse.specs.Words.{is_one_of, same_text}
 use Rattle.vg_irread.specs.Kinds.{Kind, words, local, global, group, digits, number, label, is_of, is_in, head, is_within, is_among, byte, heads, are_apart, heads_apart, words_apart, kinds_apart, apart}

@@ -1,38 +1,35 @@
 -- The reader of instructions with two operands is exact.
-use Rattle.std.proofs.Common.{◌≡◌, ℕ, zero, suc, ◌+◌, ◌<◌, ◌≤◌, max, Bool, true, false, cond, ◌&&◌, Option, Some, None, is_some, unwrap_or, List, [], ◌∷◌, ◌++◌, length, codes, refl, sym, ap, subst, ◌∙◌, arith, IsTrue}
-use Rattle.std.proofs.lemmas.Bool.{and_parts, and_from, both_ways}
+use Rattle.std.proofs.Common.{◌≡◌, ℕ, Bool, true, false, cond, ◌&&◌, Option, Some, None, is_some, unwrap_or, List, [], ◌∷◌, codes, refl, sym, ap, subst, ◌∙◌, arith, IsTrue}
 use Rattle.std.specs.Option.{option_map, option_map_or}
 use Rattle.vg_ir.specs.declared.name.NameAt.{NameAt}
 use Rattle.vg_ir.specs.declared.ty.TypeAt.{TypeAt}
 use Rattle.vg_ir.specs.declared.operand.Operand.{Operand}
 use Rattle.vg_ir.specs.declared.operator.BinaryOperator.{BinaryOperator}
 use Rattle.vg_ir.specs.declared.operator.BinaryOperator.TheVariants as operators
-use Rattle.vg_ir.specs.declared.instruction.Binary.{Binary}
 use Rattle.vg_ir.specs.declared.instruction.Instruction.{Instruction}
 use Rattle.vg_ir.specs.declared.instruction.Instruction.TheVariants as instructions
 use Rattle.vg_ir.specs.Shape.{integer_width}
 use Rattle.vg_irparse.specs.declared.role.Role.{Role}
 use Rattle.vg_irparse.specs.declared.role.Role.TheVariants as roles
 use Rattle.vg_irparse.specs.declared.role.Wanted.{Wanted}
-use Rattle.vg_irparse.specs.Placed.{Placed, Mark, Slot, plain, operation, lexemes_of}
+use Rattle.vg_irparse.specs.Placed.{Placed, Mark, plain, operation}
 use Rattle.vg_irparse.specs.Text.{spot}
 use Rattle.vg_irparse.specs.ReadingType.{wanted}
 use Rattle.vg_irparse.specs.Words.{same_text, entry_of, is_one_of, operator_words, operator_flags}
 use Rattle.vg_irparse.specs.Grammar.{are_flags, is_operator, is_result_name, is_value_type, is_operand_at}
-use Rattle.vg_irparse.specs.GrammarInstruction.{is_instruction}
 use Rattle.vg_irparse.specs.Concrete.{ResultName, TypeTree}
-use Rattle.vg_irparse.specs.ConcreteInstruction.{InstructionTree, binary, compare, select, cast, freeze, alloca, load, store, element_pointer, call}
+use Rattle.vg_irparse.specs.ConcreteInstruction.{InstructionTree, binary}
 use Rattle.vg_irparse.specs.Tree as tree
-use Rattle.vg_irparse.specs.TreeInstruction.{result_of, instruction_of}
-use Rattle.vg_irread.specs.Kinds.{Kind, words, local, is_in}
-use Rattle.vg_irread.specs.Reading.{Reader, done, token_at, ◌>>=◌}
-use Rattle.vg_irread.specs.Exact.{Spelling, front, one, sign, both, nothing, IsExact}
-use Rattle.vg_irread.specs.ReadingOperand.{behind, a_result_name, result_name_at, is_operand_for, an_operand, a_value_type, sign_at, operand_at, value_type_at}
-use Rattle.vg_irread.specs.ReadingInstruction.{words_of, entry, operator_at, flags_at, binary_at}
+use Rattle.vg_irparse.specs.TreeInstruction.{result_of}
+use Rattle.vg_irread.specs.Kinds.{words, local}
+use Rattle.vg_irread.specs.Reading.{token_at, ◌>>=◌}
+use Rattle.vg_irread.specs.Exact.{Spelling, one, sign, both, nothing, IsExact}
+use Rattle.vg_irread.specs.ReadingOperand.{behind, a_result_name, result_name_at, is_operand_for, an_operand, a_value_type}
+use Rattle.vg_irread.specs.ReadingInstruction.{words_of, entry, flags_at, binary_at}
 use Rattle.vg_irread.specs.ExactInstruction.{flags, an_instruction, is_binary, BinaryIsExact}
 use Rattle.vg_irread.proofs.Single.{token_exact, done_exact}
 use Rattle.vg_irread.proofs.Pairs.{both_exact}
-use Rattle.vg_irread.proofs.Same.{Same, Covers, same_exact}
+use Rattle.vg_irread.proofs.Same.{Covers, same_exact}
 use Rattle.vg_irread.proofs.OperandsExact.{one_takes, result_name_exact, value_type_exact, operand_exact_at, operand_same, width_same, sign_exact}
 use Rattle.vg_irread.proofs.Flags.{operator_flag_kinds, operator_flags_exact}
 

@@ -1,11 +1,11 @@
 -- A reader of one or another is exact, where neither begins with a lexeme of the other.
-use Rattle.std.proofs.Common.{◌≡◌, ◌⊎◌, ℕ, zero, suc, ◌+◌, ◌<◌, ◌≤◌, Bool, true, false, cond, List, [], ◌∷◌, ◌++◌, length, refl, sym, ap, subst, ◌∙◌, arith, IsTrue, inl, inr}
+use Rattle.std.proofs.Common.{◌≡◌, ◌⊎◌, ℕ, ◌+◌, ◌≤◌, Bool, true, false, cond, List, [], ◌∷◌, ◌++◌, length, refl, sym, ap, ◌∙◌, IsTrue, inl, inr}
 use Rattle.vg_irparse.specs.declared.role.Wanted.{Wanted}
 use Rattle.vg_irparse.specs.Placed.{Placed, Slot, lexemes_of}
 use Rattle.vg_irparse.specs.Answer.{reads, leaves}
 use Rattle.vg_irread.specs.Kinds.{Kind, is_in, apart}
 use Rattle.vg_irread.specs.Reading.{Reader, either_at}
-use Rattle.vg_irread.specs.Exact.{Spelling, front, either, Found, Ends, Tells, Begins, Refused, Starts, IsExact}
+use Rattle.vg_irread.specs.Exact.{Spelling, front, either, Found, Ends, Refused, Starts, IsExact}
 use Rattle.vg_irread.proofs.Apart.{in_left, in_right, out_of, not_in}
 use Rattle.vg_irread.proofs.Single.{tells_along}
 use Rattle.vg_irread.proofs.Optional.{deciding, deciding_is, starts_before}

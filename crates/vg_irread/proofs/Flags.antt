@@ -1,32 +1,32 @@
 -- The reader of flags in their order is exact.
-use Rattle.std.proofs.Common.{◌≡◌, ℕ, zero, suc, ◌+◌, ◌<◌, ◌≤◌, Bool, true, false, cond, ◌&&◌, Option, Some, None, List, [], ◌∷◌, ◌++◌, length, codes, refl, sym, ap, subst, ◌∙◌, arith, IsTrue}
+use Rattle.std.proofs.Common.{◌≡◌, ℕ, Bool, true, false, cond, ◌&&◌, Option, Some, None, List, [], ◌∷◌, codes, refl, sym, ap, subst}
 use mathlib.Core.Path.{fun_ext}
 use Rattle.std.proofs.lemmas.Bool.{and_parts, and_from, both_ways}
 use Rattle.std.proofs.lemmas.Slice.Eq.{bytes_eq-Decides}
 use Rattle.std.specs.Str.{bytes_eq}
 use Rattle.vg_ir.specs.declared.operator.BinaryOperator.{BinaryOperator}
 use Rattle.vg_ir.specs.declared.operator.BinaryOperator.TheVariants as operators
-use Rattle.vg_irparse.specs.Placed.{Placed, Mark, Slot, plain, lexemes_of, marked, free}
+use Rattle.vg_irparse.specs.Placed.{Placed, Mark, plain, lexemes_of, marked}
 use Rattle.vg_irparse.specs.declared.role.Wanted.{Wanted}
 use Rattle.vg_irparse.specs.declared.role.Role.TheVariants as roles
 use Rattle.vg_irparse.specs.ReadingType.{wanted}
 use Rattle.vg_irparse.specs.Answer.{Answer, reads, leaves}
 use Rattle.vg_irparse.specs.Answer as answer
-use Rattle.vg_irparse.specs.Words.{same_text, is_one_of, operator_flags}
+use Rattle.vg_irparse.specs.Words.{same_text, operator_flags}
 use Rattle.vg_irparse.specs.Grammar.{are_flags}
 use Rattle.vg_irparse.specs.Spelling.{spelled_list, spelled_free}
 use Rattle.vg_irparse.proofs.TypesSound.{mark_of, marked_is, text_is}
 use Rattle.vg_irread.specs.Kinds.{Kind, words, is_in, apart}
-use Rattle.vg_irread.specs.Reading.{Reader, done, optional_by, optional_at, ◌>>=◌}
-use Rattle.vg_irread.specs.Exact.{Spelling, front, both, may, sign, nothing, Starts, IsExact}
+use Rattle.vg_irread.specs.Reading.{optional_by, optional_at, ◌>>=◌}
+use Rattle.vg_irread.specs.Exact.{front, both, may, sign, nothing, Starts, IsExact}
 use Rattle.vg_irread.specs.ReadingOperand.{sign_at}
-use Rattle.vg_irread.specs.ReadingInstruction.{skipped_word, skipped_words, flags_at}
+use Rattle.vg_irread.specs.ReadingInstruction.{skipped_words, flags_at}
 use Rattle.vg_irread.specs.ExactInstruction.{flags}
-use Rattle.vg_irread.proofs.Apart.{if_cases, in_head, in_tail, not_in}
+use Rattle.vg_irread.proofs.Apart.{not_in}
 use Rattle.vg_irread.proofs.Single.{done_exact}
 use Rattle.vg_irread.proofs.Pairs.{both_exact}
 use Rattle.vg_irread.proofs.Optional.{optional_exact}
-use Rattle.vg_irread.proofs.Same.{Same, Covers, same_exact}
+use Rattle.vg_irread.proofs.Same.{Covers, same_exact}
 use Rattle.vg_irread.proofs.Weaker.{Within, weaker_exact}
 use Rattle.vg_irread.proofs.OperandsExact.{sign_exact}
 

@@ -1,8 +1,7 @@
 -- The readers of `icmp`, `select`, casts and `freeze` are exact.
-use Rattle.std.proofs.Common.{◌≡◌, ℕ, zero, suc, ◌+◌, ◌<◌, ◌≤◌, max, Bool, true, false, cond, ◌&&◌, Option, Some, None, is_some, unwrap_or, List, [], ◌∷◌, ◌++◌, length, codes, refl, sym, ap, subst, ◌∙◌, arith, IsTrue}
+use Rattle.std.proofs.Common.{◌≡◌, ℕ, Bool, true, false, cond, ◌&&◌, Option, Some, None, is_some, unwrap_or, List, [], ◌∷◌, codes, refl, sym, ap, subst, ◌∙◌, arith, IsTrue}
 use mathlib.Core.Path.{fun_ext}
-use Rattle.std.specs.Option.{option_map, option_map_or}
-use Rattle.std.specs.Str.{bytes_eq}
+use Rattle.std.specs.Option.{option_map_or}
 use Rattle.vg_ir.specs.declared.name.NameAt.{NameAt}
 use Rattle.vg_ir.specs.declared.ty.TypeAt.{TypeAt}
 use Rattle.vg_ir.specs.declared.operand.Operand.{Operand}
@@ -14,30 +13,27 @@ use Rattle.vg_ir.specs.declared.operator.Predicate.TheVariants as predicates
 use Rattle.vg_ir.specs.declared.instruction.Instruction.{Instruction}
 use Rattle.vg_ir.specs.declared.instruction.Instruction.TheVariants as instructions
 use Rattle.vg_ir.specs.Shape.{integer_width}
-use Rattle.vg_irparse.specs.declared.role.Role.{Role}
 use Rattle.vg_irparse.specs.declared.role.Role.TheVariants as roles
-use Rattle.vg_irparse.specs.declared.role.Wanted.{Wanted}
-use Rattle.vg_irparse.specs.Placed.{Placed, Mark, Slot, plain, operation, any_type, value_type, fixed_type, lexemes_of, marked, last_of_type}
+use Rattle.vg_irparse.specs.Placed.{Placed, Mark, plain, operation, any_type, fixed_type, marked, last_of_type}
 use Rattle.vg_irparse.specs.Text.{spot}
 use Rattle.vg_irparse.specs.ReadingType.{wanted}
 use Rattle.vg_irparse.specs.Words.{same_text, entry_of, cast_words, cast_flags, predicate_words}
-use Rattle.vg_irparse.specs.Grammar.{are_flags, is_cast, is_result_name, is_type, is_value_type, is_operand_at, is_operand_of, is_typed, is_value}
-use Rattle.vg_irparse.specs.GrammarInstruction.{is_instruction}
+use Rattle.vg_irparse.specs.Grammar.{are_flags, is_result_name, is_type, is_value_type, is_operand_at, is_operand_of, is_typed, is_value}
 use Rattle.vg_irparse.specs.Concrete.{ResultName, TypeTree, TypedTree}
-use Rattle.vg_irparse.specs.ConcreteInstruction.{InstructionTree, binary, compare, select, cast, freeze, alloca, load, store, element_pointer, call}
+use Rattle.vg_irparse.specs.ConcreteInstruction.{InstructionTree, compare, select, cast, freeze}
 use Rattle.vg_irparse.specs.Tree as tree
-use Rattle.vg_irparse.specs.TreeInstruction.{result_of, instruction_of}
-use Rattle.vg_irread.specs.Kinds.{Kind, words, local, is_in}
-use Rattle.vg_irread.specs.Reading.{Reader, done, token_at, ◌>>=◌, optional_at}
-use Rattle.vg_irread.specs.Exact.{Spelling, front, one, sign, single, both, may, nothing, IsExact}
-use Rattle.vg_irread.specs.ReadingType.{type_at, a_type}
-use Rattle.vg_irread.specs.ReadingOperand.{behind, a_result_name, result_name_at, is_operand_for, an_operand, a_value_type, sign_at, operand_at, value_type_at, any_typed_at, value_at, a_typed, a_value}
-use Rattle.vg_irread.specs.ReadingInstruction.{words_of, entry, flags_at, compare_at, select_at, cast_at, freeze_at, condition_at, cast_word_at, predicate_at}
+use Rattle.vg_irparse.specs.TreeInstruction.{result_of}
+use Rattle.vg_irread.specs.Kinds.{Kind, words, local}
+use Rattle.vg_irread.specs.Reading.{done, ◌>>=◌, optional_at}
+use Rattle.vg_irread.specs.Exact.{Spelling, sign, single, both, may, nothing, IsExact}
+use Rattle.vg_irread.specs.ReadingType.{a_type}
+use Rattle.vg_irread.specs.ReadingOperand.{behind, a_result_name, result_name_at, is_operand_for, an_operand, a_value_type, sign_at, a_typed, a_value}
+use Rattle.vg_irread.specs.ReadingInstruction.{words_of, flags_at, compare_at, select_at, cast_at, freeze_at, condition_at}
 use Rattle.vg_irread.specs.ExactInstruction.{flags, an_instruction, is_compare, is_select, is_cast_tree, is_freeze, CompareIsExact, SelectIsExact, CastIsExact, FreezeIsExact}
-use Rattle.vg_irread.proofs.Single.{token_exact, done_exact}
+use Rattle.vg_irread.proofs.Single.{done_exact}
 use Rattle.vg_irread.proofs.Pairs.{both_exact}
 use Rattle.vg_irread.proofs.Optional.{optional_exact}
-use Rattle.vg_irread.proofs.Same.{Same, Covers, same_exact}
+use Rattle.vg_irread.proofs.Same.{Covers, same_exact}
 use Rattle.vg_irread.proofs.Weaker.{Within, weaker_exact}
 use Rattle.vg_irread.proofs.TypesExact.{type_exact}
 use Rattle.vg_irread.proofs.OperandsExact.{result_name_exact, value_type_exact, operand_exact, operand_exact_at, operand_same, width_same, sign_exact, ending_exact, any_typed_exact, value_exact}

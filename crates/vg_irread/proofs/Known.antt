@@ -1,22 +1,20 @@
 -- The reader of types in the code is the one on lists, and what it reads has a known width.
-use Rattle.std.proofs.Common.{◌≡◌, ℕ, ◌<◌, ◌≤◌, ◌||◌, Bool, true, false, Option, Some, None, Result, Ok, Err, List, [], ◌∷◌, refl, sym, ap, subst, ◌∙◌, arith}
+use Rattle.std.proofs.Common.{◌≡◌, ℕ, true, Option, Some, None, Result, Ok, Err, List, [], ◌∷◌, refl, sym, subst, arith}
 use Rattle.std.specs.Prelude.{IfSome, IfOk}
 use Rattle.std.proofs.lemmas.Bool.Decides.{nat_tests}
 use Rattle.vg_ir.specs.declared.ty.Ty.{Ty}
 use Rattle.vg_ir.specs.declared.ty.TypeAt.{TypeAt}
 use Rattle.vg_ir.specs.Shape.{integer_width, is_integer_width}
-use Rattle.vg_irparse.specs.declared.role.Role.TheVariants as roles
 use Rattle.vg_irparse.specs.declared.role.Wanted.{Wanted}
 use Rattle.vg_irparse.specs.declared.stop.Stop.{Stop}
 use Rattle.vg_irparse.specs.Placed.{Placed, any_type}
-use Rattle.vg_irparse.specs.Answer.{Answer, reads, Gives}
+use Rattle.vg_irparse.specs.Answer.{reads, Gives}
 use Rattle.vg_irparse.specs.Concrete.{TypeTree, integer, pointer, array, structure, named}
 use Rattle.vg_irparse.specs.Grammar.{is_type}
 use Rattle.vg_irparse.specs.ReadingType.{simple_type, type_by, most_brackets}
 use Rattle.vg_irparse.specs.ReadingType as types
 use Rattle.vg_irparse.specs.Tree as tree
-use Rattle.vg_irread.specs.Exact.{Found}
-use Rattle.vg_irread.specs.ReadingType.{type_in, type_at, a_type}
+use Rattle.vg_irread.specs.ReadingType.{type_in, type_at}
 use Rattle.vg_irread.specs.ReadingOperand.{IsWidth, HasWidth}
 use Rattle.vg_irread.proofs.Layers.{width-Int, width-Ptr, width-Array, width-Struct, width-Named}
 use Rattle.vg_irread.proofs.TypesExact.{type_sound}

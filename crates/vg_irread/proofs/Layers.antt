@@ -1,5 +1,5 @@
 -- The width of each type.
-use Rattle.std.proofs.Common.{◌≡◌, ℕ, Option, Some, None, List, refl, sym, ap, ◌∙◌}
+use Rattle.std.proofs.Common.{◌≡◌, ℕ, Option, Some, None, List, sym, ap, ◌∙◌}
 use Rattle.vg_ir.specs.declared.name.Name.{Name}
 use Rattle.vg_ir.specs.declared.ty.Ty.{Ty, out-Ty, roll-Ty, out-roll-Ty}
 use Rattle.vg_ir.specs.declared.ty.Ty.TheOpen.{Ty-F}

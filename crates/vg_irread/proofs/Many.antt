@@ -1,5 +1,5 @@
 -- A reader of as many as there are is exact, where none of what may not follow one begins another.
-use Rattle.std.proofs.Common.{◌≡◌, ◌⊎◌, ℕ, zero, suc, ◌+◌, ◌<◌, ◌≤◌, max, Bool, true, false, cond, ◌&&◌, Option, Some, None, List, [], ◌∷◌, ◌++◌, length, map, refl, sym, ap, subst, ◌∙◌, arith, append_assoc, length-append, IsTrue, inl, inr}
+use Rattle.std.proofs.Common.{◌≡◌, ℕ, zero, suc, ◌+◌, ◌<◌, ◌≤◌, Bool, true, false, cond, List, [], ◌∷◌, ◌++◌, length, refl, sym, ap, subst, ◌∙◌, arith, append_assoc, length-append, IsTrue, inr}
 use Rattle.std.proofs.lemmas.Bool.{and_parts, and_from}
 use Rattle.std.proofs.lemmas.List.{append-nil}
 use Rattle.std.specs.List.{list_all}
@@ -10,7 +10,7 @@ use Rattle.vg_irparse.specs.Answer.{Answer, reads, leaves, too_deep}
 use Rattle.vg_irparse.specs.Answer as answer
 use Rattle.vg_irread.specs.Kinds.{Kind, is_in, apart}
 use Rattle.vg_irread.specs.Reading.{Reader, many_from, many_at}
-use Rattle.vg_irread.specs.Exact.{Spelling, front, many, greatest, Found, Ends, Tells, Begins, Refused, Starts, IsExact}
+use Rattle.vg_irread.specs.Exact.{Spelling, front, many, Found, Ends, Tells, Begins, Refused, Starts, IsExact}
 use Rattle.vg_irread.proofs.Apart.{out_of}
 use Rattle.vg_irread.proofs.Single.{reads_not, deep_not, deep_leaves_not, same_reads, bind, bind_leaves, bind_reads, bind_tells, tells_along, no_more, cut_once}
 use Rattle.vg_irread.proofs.Pairs.{again_over, ends_join}

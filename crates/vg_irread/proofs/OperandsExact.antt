@@ -1,43 +1,40 @@
 -- The readers of names, operands and types of values are exact.
-use Rattle.std.proofs.Common.{◌≡◌, ◌⊎◌, ℕ, zero, suc, ◌+◌, ◌<◌, ◌≤◌, max, Bool, true, false, cond, ◌&&◌, ◌||◌, nat_eq, Option, Some, None, is_some, unwrap_or, List, [], ◌∷◌, ◌++◌, length, codes, map, refl, sym, ap, subst, ◌∙◌, arith, append_assoc, length-append, IsTrue, inl, inr}
+use Rattle.std.proofs.Common.{◌≡◌, ℕ, ◌+◌, Bool, true, false, cond, ◌||◌, nat_eq, Option, Some, None, List, [], ◌∷◌, length, codes, refl, sym, ap, subst, ◌∙◌, arith, inl, inr}
 use mathlib.Core.Path.{fun_ext}
 use Rattle.std.proofs.lemmas.Bool.{and_parts, and_from, or_cases}
 use Rattle.std.proofs.lemmas.Slice.Eq.{bytes_eq-Decides}
 use Rattle.std.specs.Str.{bytes_eq}
-use Rattle.vg_ir.specs.declared.name.NameAt.{NameAt}
 use Rattle.vg_ir.specs.declared.ty.Ty.{Ty}
 use Rattle.vg_ir.specs.declared.ty.Ty.TheVariants as ty
 use Rattle.vg_ir.specs.declared.ty.TypeAt.{TypeAt}
 use Rattle.vg_ir.specs.declared.operand.Operand.{Operand}
 use Rattle.vg_ir.specs.declared.operand.TypedOperand.{TypedOperand}
-use Rattle.vg_ir.specs.Shape.{integer_width, is_integer_width}
+use Rattle.vg_ir.specs.Shape.{integer_width}
 use Rattle.vg_irparse.specs.declared.role.Role.{Role}
 use Rattle.vg_irparse.specs.declared.role.Role.TheVariants as roles
 use Rattle.vg_irparse.specs.declared.role.Wanted.{Wanted}
 use Rattle.vg_irparse.specs.Placed.{Placed, Mark, Slot, plain, operand, value_type, marked, last_of_type, fixed, free, lexemes_of}
 use Rattle.vg_irparse.specs.Text.{is_local, is_global, is_number, spot, name_of, name_bytes, digits_value}
-use Rattle.vg_irparse.specs.Taking.{fixed_at}
-use Rattle.vg_irparse.specs.Answer.{Answer, reads, leaves}
+use Rattle.vg_irparse.specs.Answer.{reads, leaves}
 use Rattle.vg_irparse.specs.ReadingType.{wanted, simple_by}
 use Rattle.vg_irparse.specs.Words.{entry_of, integer_words, constant_words, is_one_of}
-use Rattle.vg_irparse.specs.Grammar.{is_type, is_value_type, is_number_of, is_number_at, is_operand_at, is_name_or_word, is_typed, is_value, is_result_name}
-use Rattle.vg_irparse.specs.Concrete.{TypeTree, integer, pointer, array, structure, named, TypedTree, ResultName}
-use Rattle.vg_irparse.specs.Spelling.{integer_text, spelled_type, spelled_typed, spelled_result_name}
+use Rattle.vg_irparse.specs.Grammar.{is_type, is_value_type, is_operand_at, is_name_or_word}
+use Rattle.vg_irparse.specs.Concrete.{TypeTree, integer, pointer, array, structure, named}
+use Rattle.vg_irparse.specs.Spelling.{integer_text, spelled_type}
 use Rattle.vg_irparse.specs.Tree as tree
-use Rattle.vg_irparse.specs.ExactType.{nesting}
 use Rattle.vg_irparse.proofs.TypesSound.{mark_of, marked_is, text_is, simple_sound, made_is}
 use Rattle.vg_irparse.proofs.TypesComplete.{simple_integer}
 use Rattle.vg_irparse.proofs.TypesPlace.{no_mark}
-use Rattle.vg_irread.specs.Kinds.{Kind, words, local, global, number, is_in, is_of, apart}
-use Rattle.vg_irread.specs.Reading.{Reader, done, token_at, token_by, ◌>>=◌}
-use Rattle.vg_irread.specs.Exact.{Spelling, front, one, sign, single, both, nothing, kinds_of, goes_of, IsExact}
-use Rattle.vg_irread.specs.ReadingType.{type_at, a_type, type_kinds}
-use Rattle.vg_irread.specs.ReadingOperand.{behind, sign_at, taken, local_at, global_at, result_name_at, a_result_name, is_number_for, is_operand_for, operand_at, an_operand, operand_kinds, scalar_by, scalar_in, scalar_of, value_type_at, a_value_type, value_type_kinds, typed_at, any_typed_at, value_at, a_typed, a_value}
+use Rattle.vg_irread.specs.Kinds.{Kind, words, local, global, number, is_in}
+use Rattle.vg_irread.specs.Reading.{token_at, token_by}
+use Rattle.vg_irread.specs.Exact.{one, sign, single, both, nothing, IsExact}
+use Rattle.vg_irread.specs.ReadingType.{a_type, type_kinds}
+use Rattle.vg_irread.specs.ReadingOperand.{behind, sign_at, taken, local_at, result_name_at, a_result_name, is_number_for, is_operand_for, operand_at, an_operand, operand_kinds, scalar_by, scalar_in, scalar_of, value_type_at, a_value_type, value_type_kinds, any_typed_at, value_at, a_typed, a_value}
 use Rattle.vg_irread.proofs.Apart.{in_head, in_tail}
 use Rattle.vg_irread.proofs.Single.{Takes, token_exact, done_exact}
 use Rattle.vg_irread.proofs.Layers.{width-Int, width-Ptr, width-Array, width-Struct, width-Named}
 use Rattle.vg_irread.proofs.Pairs.{both_exact}
-use Rattle.vg_irread.proofs.Same.{Same, Covers, same_exact}
+use Rattle.vg_irread.proofs.Same.{same_exact}
 use Rattle.vg_irread.proofs.TypesExact.{type_exact}
 
 -- ---- one lexeme that passes a test

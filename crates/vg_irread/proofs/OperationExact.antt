@@ -1,22 +1,22 @@
 -- The reader of an instruction behind its result, by its word, is exact.
-use Rattle.std.proofs.Common.{◌≡◌, ◌⊎◌, ℕ, ◌≤◌, Bool, true, false, ◌&&◌, Option, List, [], ◌∷◌, codes, refl, sym, ◌∙◌, arith, IsTrue, inl, inr}
+use Rattle.std.proofs.Common.{◌≡◌, ◌⊎◌, false, Option, List, [], ◌∷◌, codes, refl, sym, ◌∙◌, arith, IsTrue, inl, inr}
 use Rattle.vg_ir.specs.declared.name.NameAt.{NameAt}
 use Rattle.vg_ir.specs.declared.instruction.Instruction.{Instruction}
 use Rattle.vg_irparse.specs.Placed.{Placed, Mark}
 use Rattle.vg_irparse.specs.Words.{operator_words, cast_words}
 use Rattle.vg_irparse.specs.Grammar.{is_result_name, is_operand_of, is_value, is_typed}
 use Rattle.vg_irparse.specs.Concrete.{ResultName, TypeTree, TypedTree}
-use Rattle.vg_irparse.specs.ConcreteInstruction.{InstructionTree, binary, compare, select, cast, freeze, alloca, load, store, element_pointer, call}
+use Rattle.vg_irparse.specs.ConcreteInstruction.{InstructionTree, binary, compare, select, cast, freeze}
 use Rattle.vg_irparse.specs.TreeInstruction.{result_of}
 use Rattle.vg_irread.specs.Kinds.{Kind, words, local}
-use Rattle.vg_irread.specs.Reading.{Reader, either_at, ◌>>=◌}
+use Rattle.vg_irread.specs.Reading.{◌>>=◌}
 use Rattle.vg_irread.specs.Exact.{Spelling, both, either, IsExact}
 use Rattle.vg_irread.specs.ReadingOperand.{a_result_name, result_name_at}
 use Rattle.vg_irread.specs.ReadingInstruction.{words_of, operation_at}
 use Rattle.vg_irread.specs.ExactInstruction.{an_instruction, is_operation, OperationIsExact}
 use Rattle.vg_irread.proofs.Pairs.{both_exact}
 use Rattle.vg_irread.proofs.Either.{either_exact}
-use Rattle.vg_irread.proofs.Same.{Same, Covers, same_exact}
+use Rattle.vg_irread.proofs.Same.{Covers, same_exact}
 use Rattle.vg_irread.proofs.OperandsExact.{result_name_exact}
 use Rattle.vg_irread.proofs.BinaryExact.{binary_body, binary_body_exact, grammar_same}
 use Rattle.vg_irread.proofs.InstructionsExact.{compare_body, compare_body_exact, compare_grammar, select_body, select_body_exact, select_regroup, cast_body, cast_body_exact, cast_grammar, freeze_body, freeze_body_exact, freeze_regroup}

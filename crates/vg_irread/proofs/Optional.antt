@@ -1,13 +1,11 @@
 -- A reader of what may lack is exact, and one of as many as there are.
-use Rattle.std.proofs.Common.{◌≡◌, ◌⊎◌, ℕ, zero, suc, ◌+◌, ◌<◌, ◌≤◌, max, Bool, true, false, cond, ◌&&◌, Option, Some, None, List, [], ◌∷◌, ◌++◌, length, map, refl, sym, ap, subst, ◌∙◌, arith, append_assoc, length-append, IsTrue, inl, inr}
-use Rattle.std.proofs.lemmas.Bool.{and_parts, and_from}
+use Rattle.std.proofs.Common.{◌≡◌, ℕ, ◌+◌, ◌≤◌, Bool, true, false, Option, Some, None, List, [], ◌∷◌, ◌++◌, length, refl, sym, ap, ◌∙◌, arith, IsTrue}
 use Rattle.vg_irparse.specs.declared.role.Wanted.{Wanted}
 use Rattle.vg_irparse.specs.Placed.{Placed, Slot, lexemes_of}
-use Rattle.vg_irparse.specs.Answer.{Answer, reads, leaves, too_deep}
-use Rattle.vg_irparse.specs.Answer as answer
-use Rattle.vg_irread.specs.Kinds.{Kind, is_in, apart}
+use Rattle.vg_irparse.specs.Answer.{reads, leaves}
+use Rattle.vg_irread.specs.Kinds.{Kind, is_in}
 use Rattle.vg_irread.specs.Reading.{Reader, optional_by, optional_at}
-use Rattle.vg_irread.specs.Exact.{Spelling, front, may, Found, Ends, Tells, Begins, Refused, Starts, IsExact}
+use Rattle.vg_irread.specs.Exact.{Spelling, front, may, Found, Ends, Refused, Starts, IsExact}
 use Rattle.vg_irread.proofs.Apart.{out_of}
 use Rattle.vg_irread.proofs.Single.{reads_not, same_reads, bind, bind_leaves, bind_reads, bind_tells, tells_along, no_more}
 

@@ -1,13 +1,12 @@
 -- One exact reader behind another is exact, where what may not follow the one begins no tree of the other.
-use Rattle.std.proofs.Common.{◌≡◌, ◌⊎◌, ℕ, zero, suc, ◌+◌, ◌<◌, ◌≤◌, max, Bool, true, false, cond, ◌&&◌, Option, Some, None, List, [], ◌∷◌, ◌++◌, length, map, refl, sym, ap, subst, ◌∙◌, arith, append_assoc, length-append, IsTrue, inl, inr}
+use Rattle.std.proofs.Common.{◌≡◌, ℕ, ◌+◌, ◌≤◌, max, Bool, true, false, ◌&&◌, List, [], ◌∷◌, ◌++◌, length, refl, sym, ap, subst, ◌∙◌, arith, append_assoc, IsTrue}
 use Rattle.std.proofs.lemmas.Bool.{and_parts, and_from}
 use Rattle.vg_irparse.specs.declared.role.Wanted.{Wanted}
 use Rattle.vg_irparse.specs.Placed.{Placed, Slot, lexemes_of}
-use Rattle.vg_irparse.specs.Answer.{Answer, reads, leaves, too_deep}
-use Rattle.vg_irparse.specs.Answer as answer
-use Rattle.vg_irread.specs.Kinds.{Kind, is_in, apart}
+use Rattle.vg_irparse.specs.Answer.{reads, leaves}
+use Rattle.vg_irread.specs.Kinds.{Kind, apart}
 use Rattle.vg_irread.specs.Reading.{Reader, ◌>>=◌}
-use Rattle.vg_irread.specs.Exact.{Spelling, front, both, Found, Ends, Tells, Begins, Refused, Starts, kinds_of, goes_of, IsExact}
+use Rattle.vg_irread.specs.Exact.{Spelling, front, both, Found, Ends, Refused, Starts, kinds_of, goes_of, IsExact}
 use Rattle.vg_irread.proofs.Apart.{in_left, in_right, out_of, not_in}
 use Rattle.vg_irread.proofs.Single.{bind, bind_leaves, bind_reads, bind_tells, tells_along, cut_once}
 

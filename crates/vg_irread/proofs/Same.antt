@@ -1,8 +1,8 @@
 -- A reader that is exact for one spelling is so for another one of the same texts.
-use Rattle.std.proofs.Common.{◌≡◌, ℕ, ◌≤◌, Bool, List, [], ◌++◌, refl, sym, ap, subst, ◌∙◌, arith, IsTrue}
+use Rattle.std.proofs.Common.{◌≡◌, ℕ, ◌≤◌, Bool, List, [], ◌++◌, sym, ap, subst, ◌∙◌, arith, IsTrue}
 use Rattle.vg_irparse.specs.declared.role.Wanted.{Wanted}
 use Rattle.vg_irparse.specs.Placed.{Placed, Slot, lexemes_of}
-use Rattle.vg_irparse.specs.Answer.{reads, leaves}
+use Rattle.vg_irparse.specs.Answer.{reads}
 use Rattle.vg_irread.specs.Kinds.{Kind}
 use Rattle.vg_irread.specs.Reading.{Reader}
 use Rattle.vg_irread.specs.Exact.{Spelling, front, Found, Ends, Refused, Starts, IsExact}

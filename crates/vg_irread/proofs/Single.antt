@@ -1,15 +1,12 @@
 -- Readers of one lexeme, and of none.
-use Rattle.std.proofs.Common.{◌≡◌, ◌⊎◌, ℕ, zero, suc, ◌+◌, ◌<◌, ◌≤◌, Bool, true, false, cond, Option, Some, None, List, [], ◌∷◌, ◌++◌, length, map, refl, sym, ap, subst, ◌∙◌, arith, append_assoc, length-append, IsTrue, inl, inr}
-use Rattle.std.proofs.lemmas.Slice.Eq.{bytes_eq-Decides}
-use Rattle.std.specs.Str.{bytes_eq}
-use Rattle.vg_irparse.specs.declared.role.Role.{Role}
+use Rattle.std.proofs.Common.{◌≡◌, ℕ, ◌+◌, ◌≤◌, Bool, true, false, Option, Some, None, List, [], ◌∷◌, ◌++◌, length, refl, sym, ap, ◌∙◌, arith, length-append, inl, inr}
 use Rattle.vg_irparse.specs.declared.role.Wanted.{Wanted}
-use Rattle.vg_irparse.specs.Placed.{Placed, Mark, Slot, lexemes_of, free, fixed, marked}
+use Rattle.vg_irparse.specs.Placed.{Placed, Slot}
 use Rattle.vg_irparse.specs.Answer.{Answer, reads, leaves, too_deep}
 use Rattle.vg_irparse.specs.Answer as answer
 use Rattle.vg_irread.specs.Kinds.{Kind, is_in}
-use Rattle.vg_irread.specs.Reading.{Reader, done, token_by, token_at}
-use Rattle.vg_irread.specs.Exact.{Spelling, front, nothing, single, one, sign, Found, Ends, Tells, Begins, Refused, Starts, IsExact}
+use Rattle.vg_irread.specs.Reading.{done, token_by, token_at}
+use Rattle.vg_irread.specs.Exact.{nothing, single, Found, Tells, Refused, IsExact}
 
 -- ---- answers
 

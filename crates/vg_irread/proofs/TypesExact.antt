@@ -1,17 +1,16 @@
 -- The reader of types is exact.
-use Rattle.std.proofs.Common.{◌≡◌, ◌⊎◌, ℕ, zero, suc, ◌+◌, ◌<◌, ◌≤◌, max, Bool, true, false, cond, ◌&&◌, nat_eq, Option, Some, None, List, [], ◌∷◌, ◌++◌, length, codes, map, refl, sym, ap, subst, ◌∙◌, arith, append_assoc, length-append, IsTrue, inl, inr}
+use Rattle.std.proofs.Common.{◌≡◌, ℕ, suc, ◌+◌, ◌<◌, ◌≤◌, max, Bool, true, false, cond, nat_eq, Option, Some, None, List, [], ◌∷◌, ◌++◌, length, codes, refl, sym, ap, subst, ◌∙◌, arith, IsTrue, inl, inr}
 use Rattle.std.proofs.lemmas.Bool.{and_parts}
-use Rattle.std.proofs.lemmas.List.{append-nil, append_cancel_left}
+use Rattle.std.proofs.lemmas.List.{append_cancel_left}
 use Rattle.vg_ir.specs.declared.ty.Ty.{Ty}
 use Rattle.vg_ir.specs.declared.ty.Ty.TheVariants as ty
 use Rattle.vg_ir.specs.declared.ty.TypeAt.{TypeAt}
 use Rattle.vg_irparse.specs.declared.part.Part.{Part}
 use Rattle.vg_irparse.specs.declared.role.Role.{Role}
 use Rattle.vg_irparse.specs.declared.role.Wanted.{Wanted}
-use Rattle.vg_irparse.specs.Placed.{Placed, Mark, Slot, lexemes_of, marked, any_type}
+use Rattle.vg_irparse.specs.Placed.{Placed, Slot, lexemes_of, marked}
 use Rattle.vg_irparse.specs.Text.{is_local, spot, name_bytes, name_of}
-use Rattle.vg_irparse.specs.Answer.{Answer, reads, leaves, too_deep}
-use Rattle.vg_irparse.specs.Answer as answer
+use Rattle.vg_irparse.specs.Answer.{reads, leaves}
 use Rattle.vg_irparse.specs.Concrete.{TypeTree, integer, pointer, array, structure, named}
 use Rattle.vg_irparse.specs.Spelling.{integer_text, spelled_type}
 use Rattle.vg_irparse.specs.Grammar.{is_length, is_type, are_more_types}
@@ -20,12 +19,12 @@ use Rattle.vg_irparse.specs.ReadingType.{simple_type, bracketed_at, part_within,
 use Rattle.vg_irparse.specs.ExactType.{nesting, nesting_more}
 use Rattle.vg_irparse.proofs.TypesSound.{simple_sound, bracketed_sound, part_sound, IsSimple, IsBracketed, made_is}
 use Rattle.vg_irparse.proofs.TypesComplete.{part_of, simple_integer, simple_pointer, simple_local, array_complete, structure_complete, part_complete, more_complete, max_left, max_right}
-use Rattle.vg_irparse.proofs.TypesPlace.{Again, slots_of, slots_are, no_mark, Stops, PartStops, TypeFront, bracket_again, part_stops, type_append}
-use Rattle.vg_irread.specs.Kinds.{Kind, words, local, is_in, is_of}
+use Rattle.vg_irparse.proofs.TypesPlace.{Again, slots_of, slots_are, no_mark, bracket_again, part_stops, type_append}
+use Rattle.vg_irread.specs.Kinds.{is_in}
 use Rattle.vg_irread.specs.Reading.{Reader}
-use Rattle.vg_irread.specs.Exact.{Spelling, front, Found, Ends, Tells, Begins, Refused, Starts, IsExact}
+use Rattle.vg_irread.specs.Exact.{Spelling, front, Found, Ends, Tells, Refused, Starts, IsExact}
 use Rattle.vg_irread.specs.ReadingType.{type_in, type_at, a_type, type_kinds}
-use Rattle.vg_irread.proofs.Single.{reads_not, leaves_not, same_reads, bind, bind_leaves, bind_reads, places, cut_once}
+use Rattle.vg_irread.proofs.Single.{reads_not, leaves_not, same_reads, bind, bind_leaves, places, cut_once}
 
 -- ---- beginnings
 

@@ -1,8 +1,7 @@
 -- A reader is exact with more kinds too.
-use Rattle.std.proofs.Common.{◌≡◌, ℕ, ◌≤◌, Bool, true, false, List, [], ◌∷◌, ◌++◌, refl, sym, IsTrue}
+use Rattle.std.proofs.Common.{◌≡◌, ℕ, Bool, true, List, [], ◌∷◌}
 use Rattle.std.proofs.lemmas.Bool.{both_ways}
 use Rattle.vg_irparse.specs.Placed.{Placed}
-use Rattle.vg_irparse.specs.Answer.{reads}
 use Rattle.vg_irread.specs.Kinds.{Kind, is_in}
 use Rattle.vg_irread.specs.Reading.{Reader}
 use Rattle.vg_irread.specs.Exact.{Spelling, front, Ends, Starts, IsExact}

@@ -1,5 +1,5 @@
 -- Instructions, as they are spelled.
-use Rattle.std.specs.Prelude.{◌≡◌, ℕ, ◌&&◌, Bool, true, false, List, [], ◌∷◌}
+use Rattle.std.specs.Prelude.{ℕ, ◌&&◌, Bool, true, false, List, [], ◌∷◌}
 use Rattle.vg_ir.specs.declared.instruction.Instruction.{Instruction}
 use Rattle.vg_irparse.specs.Placed.{Placed}
 use Rattle.vg_irparse.specs.Grammar.{are_flags}
@@ -9,7 +9,7 @@ use Rattle.vg_irparse.specs.SpellingInstruction.{spelled_instruction}
 use Rattle.vg_irparse.specs.ConcreteInstruction.{InstructionTree, binary, compare, select, cast, freeze, alloca, load, store, element_pointer, call}
 use Rattle.vg_irparse.specs.TreeInstruction.{instruction_of}
 use Rattle.vg_irparse.specs.ExactType.{nesting}
-use Rattle.vg_irread.specs.Kinds.{Kind, local}
+use Rattle.vg_irread.specs.Kinds.{local}
 use Rattle.vg_irread.specs.Reading.{Reader, ◌>>=◌}
 use Rattle.vg_irread.specs.ReadingOperand.{result_name_at}
 use Rattle.vg_irread.specs.ReadingInstruction.{binary_at, compare_at, select_at, cast_at, freeze_at, operation_at}

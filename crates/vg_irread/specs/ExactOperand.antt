@@ -1,8 +1,8 @@
 -- That types, names and operands are read exactly.
-use Rattle.std.specs.Prelude.{◌≡◌, ℕ, false, List, [], ◌∷◌, Option}
+use Rattle.std.specs.Prelude.{ℕ, false, [], ◌∷◌, Option}
 use Rattle.vg_irparse.specs.declared.role.Role.{Role}
 use Rattle.vg_irparse.specs.declared.role.Wanted.{Wanted}
-use Rattle.vg_irread.specs.Kinds.{Kind, local}
+use Rattle.vg_irread.specs.Kinds.{local}
 use Rattle.vg_irread.specs.Exact.{IsExact}
 use Rattle.vg_irread.specs.ReadingType.{type_at, a_type, type_kinds}
 use Rattle.vg_irread.specs.ReadingOperand.{result_name_at, a_result_name, operand_at, an_operand, operand_kinds, any_typed_at, a_typed, value_at, a_value, value_type_kinds}

@@ -1,7 +1,7 @@
 -- Kinds of lexemes by their bytes, and sets of kinds that have no lexeme in common.
-use Rattle.std.specs.Prelude.{ℕ, Bool, true, false, not, ◌&&◌, ◌||◌, nat_lt, nat_le, if◌then◌else◌, List, [], ◌∷◌, ◌++◌, map, codes}
+use Rattle.std.specs.Prelude.{ℕ, Bool, true, false, not, ◌&&◌, ◌||◌, nat_lt, nat_le, if◌then◌else◌, List, [], ◌∷◌, map}
 use Rattle.std.specs.List.{list_all}
-use Rattle.vg_irlex.specs.Lexing.{are_digits, is_c_quoted}
+use Rattle.vg_irlex.specs.Lexing.{are_digits}
 use Rattle.vg_irparse.specs.Text.{is_local, is_global, is_group, is_number, is_label}
 use Rattle.vg_irparse.specs.Words.{is_one_of}
 

@@ -1,9 +1,6 @@
 -- Readers of what stands in front of lexemes, and how they are put together. A reader is told how many brackets may stand in
 -- one another.
 use Rattle.std.specs.Prelude.{ℕ, zero, suc, ◌+◌, Bool, true, false, if◌then◌else◌, List, [], ◌∷◌, ◌++◌, length, Option, Some, None}
-use Rattle.std.specs.Str.{bytes_eq}
-use Rattle.vg_irparse.specs.declared.role.Role.{Role}
-use Rattle.vg_irparse.specs.declared.role.Role.TheVariants as roles
 use Rattle.vg_irparse.specs.declared.role.Wanted.{Wanted}
 use Rattle.vg_irparse.specs.Placed.{Placed}
 use Rattle.vg_irparse.specs.Answer.{Answer, reads, leaves, too_deep}

@@ -1,5 +1,5 @@
 -- Reading instructions.
-use Rattle.std.specs.Prelude.{ℕ, cond, List, [], ◌∷◌, codes, Option, Some, None}
+use Rattle.std.specs.Prelude.{ℕ, cond, List, [], ◌∷◌, codes, Option, Some}
 use Rattle.std.specs.Option.{option_map}
 use Rattle.std.specs.Str.{bytes_eq}
 use Rattle.vg_ir.specs.declared.name.NameAt.{NameAt}
@@ -10,12 +10,11 @@ use Rattle.vg_ir.specs.declared.operator.Predicate.{Predicate}
 use Rattle.vg_ir.specs.declared.instruction.Instruction.{Instruction}
 use Rattle.vg_ir.specs.declared.instruction.Instruction.TheVariants as instructions
 use Rattle.vg_ir.specs.Shape.{integer_width}
-use Rattle.vg_irparse.specs.declared.role.Role.{Role}
 use Rattle.vg_irparse.specs.declared.role.Role.TheVariants as roles
 use Rattle.vg_irparse.specs.Placed.{Placed}
 use Rattle.vg_irparse.specs.Text.{spot}
 use Rattle.vg_irparse.specs.Answer.{reads}
-use Rattle.vg_irparse.specs.ReadingType.{wanted, behind_type}
+use Rattle.vg_irparse.specs.ReadingType.{wanted}
 use Rattle.vg_irparse.specs.Words.{entry_of, operator_words, operator_flags, cast_words, cast_flags, predicate_words}
 use Rattle.vg_irread.specs.Kinds.{words}
 use Rattle.vg_irread.specs.Reading.{Reader, done, token_at, either_at, ◌>>=◌}

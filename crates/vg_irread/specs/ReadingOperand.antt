@@ -1,5 +1,5 @@
 -- Reading names, signs, operands and the types of values.
-use Rattle.std.specs.Prelude.{◌≡◌, ℕ, ◌<◌, ◌≤◌, Bool, true, false, ◌||◌, ◌==◌, if◌then◌else◌, List, [], ◌∷◌, codes, Option, Some, None, IfSome}
+use Rattle.std.specs.Prelude.{ℕ, ◌<◌, ◌≤◌, Bool, true, ◌||◌, if◌then◌else◌, List, [], ◌∷◌, codes, Option, Some, None, IfSome}
 use Rattle.std.specs.Str.{bytes_eq}
 use Rattle.vg_ir.specs.declared.name.NameAt.{NameAt}
 use Rattle.vg_ir.specs.declared.ty.Ty.{Ty}
@@ -11,14 +11,14 @@ use Rattle.vg_ir.specs.Shape.{integer_width}
 use Rattle.vg_irparse.specs.declared.role.Role.{Role}
 use Rattle.vg_irparse.specs.declared.role.Role.TheVariants as roles
 use Rattle.vg_irparse.specs.declared.role.Wanted.{Wanted}
-use Rattle.vg_irparse.specs.Placed.{Placed, Mark, Slot, plain, operand, value_type, marked, last_of_type}
+use Rattle.vg_irparse.specs.Placed.{Placed, operand, value_type}
 use Rattle.vg_irparse.specs.Text.{is_local, is_global, is_number, spot}
 use Rattle.vg_irparse.specs.Taking.{fixed_at}
-use Rattle.vg_irparse.specs.ReadingType.{wanted, behind_type}
+use Rattle.vg_irparse.specs.ReadingType.{wanted}
 use Rattle.vg_irparse.specs.Words.{entry_of, integer_words, constant_words}
-use Rattle.vg_irparse.specs.Grammar.{is_type, is_value_type, is_number_of, is_name_or_word, is_typed, is_value, is_result_name}
-use Rattle.vg_irparse.specs.Concrete.{TypeTree, integer, pointer, array, structure, named, TypedTree, ResultName}
-use Rattle.vg_irparse.specs.Spelling.{integer_text, spelled_type, spelled_typed, spelled_result_name}
+use Rattle.vg_irparse.specs.Grammar.{is_value_type, is_number_of, is_name_or_word, is_typed, is_value, is_result_name}
+use Rattle.vg_irparse.specs.Concrete.{TypeTree, TypedTree, ResultName}
+use Rattle.vg_irparse.specs.Spelling.{spelled_type, spelled_typed, spelled_result_name}
 use Rattle.vg_irparse.specs.Tree as tree
 use Rattle.vg_irparse.specs.TreeInstruction.{result_of}
 use Rattle.vg_irparse.specs.ExactType.{nesting}

@@ -1,5 +1,5 @@
 -- Reading a type, by how many brackets may stand in one another.
-use Rattle.std.specs.Prelude.{ℕ, ◌+◌, Bool, true, false, List, [], ◌∷◌, ◌++◌, length, codes, Option, Some, None}
+use Rattle.std.specs.Prelude.{ℕ, List, [], ◌∷◌, codes, Option, Some, None}
 use Rattle.vg_ir.specs.declared.ty.Ty.{Ty}
 use Rattle.vg_ir.specs.declared.ty.TypeAt.{TypeAt}
 use Rattle.vg_irparse.specs.declared.role.Role.{Role}
@@ -7,8 +7,7 @@ use Rattle.vg_irparse.specs.declared.role.Wanted.{Wanted}
 use Rattle.vg_irparse.specs.Placed.{Placed}
 use Rattle.vg_irparse.specs.Text.{spot}
 use Rattle.vg_irparse.specs.Answer.{Answer, reads, leaves, ◌>>=◌}
-use Rattle.vg_irparse.specs.ReadingType.{simple_type, bracketed_at, part_within, placed_type, most_brackets}
-use Rattle.vg_irparse.specs.ReadingType as types
+use Rattle.vg_irparse.specs.ReadingType.{simple_type, bracketed_at, part_within, placed_type}
 use Rattle.vg_irparse.specs.Grammar.{is_type}
 use Rattle.vg_irparse.specs.Concrete.{TypeTree}
 use Rattle.vg_irparse.specs.Spelling.{spelled_type}

@@ -1,7 +1,7 @@
 -- By the reader of types on lists.
-use Rattle.std.proofs.Common.{◌≡◌, List, ap, subst}
-use Rattle.vg_irparse.specs.Placed.{Placed, placed}
-use Rattle.vg_irparse.specs.Answer.{Answer, Gives}
+use Rattle.std.proofs.Common.{subst}
+use Rattle.vg_irparse.specs.Placed.{placed}
+use Rattle.vg_irparse.specs.Answer.{Gives}
 use Rattle.vg_irparse.specs.ReadingType.{most_brackets}
 use Rattle.vg_irread.proofs.Known.{whole_same, given_width}
 use Rattle.vg_irread.proofs.types.any_type_at.Goals as goal

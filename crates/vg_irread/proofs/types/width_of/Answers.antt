@@ -1,5 +1,5 @@
 -- The word says the width.
-use Rattle.std.proofs.Common.{◌≡◌, ℕ, sym, subst}
+use Rattle.std.proofs.Common.{ℕ, sym, subst}
 use Rattle.std.specs.Prelude.{IfSome, Option}
 use Rattle.vg_irread.specs.ReadingOperand.{IsWidth}
 use Rattle.vg_irread.proofs.Widths.{widths}
