@@ -1,6 +1,7 @@
 -- From the answers of the readers to what is said of a text.
-use Rattle.std.proofs.Common.{◌≡◌, ◌⊎◌, inl, inr, ℕ, List, Option, Some, None, IfSome, IsTrue, length, refl, sym, subst, map, ap, ◌∙◌}
+use Rattle.std.proofs.Common.{Result, Ok, Err, ◌≡◌, ◌⊎◌, inl, inr, ℕ, List, Option, Some, None, IfSome, IsTrue, length, refl, sym, subst, map, ap, ◌∙◌}
 use Rattle.std.specs.Option.{option_map_or}
+use Rattle.std.specs.Result.{IfErr, IsErrAnd}
 use Rattle.vg_tok.specs.declared.token.Token.{Token}
 use Rattle.vg_tok.specs.declared.fault.TokFault.{TokFault}
 use Rattle.vg_tok.specs.declared.fault.TokFault.TheVariants as token_faults
@@ -31,6 +32,11 @@ use Rattle.vg_top.specs.Reason.{lacking}
 use Rattle.vg_top.specs.Description.{HasTree, IsBuilt, IsUnlike, IsDescription, IsFaultOf}
 use Rattle.vg_top.specs.Faulting.{token_fault_of, rule_fault_of, IsBuildFault, IsFaultFor}
 
+-- what is an error of which something holds
+pub err_then : {T E : Type 0} (r : Result T E) (P : E → Type 0) → IsErrAnd r P → IfErr r P
+err_then (Ok x) P h = tt
+err_then (Err e) P h = h
+
 pub has_tree : (bytes : List ℕ) (tokens : List Token) (tree : Desc) → Lexes bytes tokens → Reads tokens tree → HasTree bytes tree
 has_tree bytes tokens tree l r = record { tokens = tokens; lexes = l; reads = r }
 
@@ -45,10 +51,12 @@ token_faulty bytes (token_faults.Wide at) (inr h) = inl (refl, inl (token_faults
 
 -- a rule that is asked first and is broken is the first that is broken
 pub broken_before : (tree : Desc) (b : Breach) → breach_of tree ≡ Some b → first_broken tree ≡ Some b
+unfolding first_broken
 broken_before tree b broken = ap (λ (x : Option Breach). or_later x (breach_asked tree)) broken
 
 -- behind those that are kept the first that is broken is that of the others
 pub broken_behind : (tree : Desc) → breach_of tree ≡ None → first_broken tree ≡ breach_asked tree
+unfolding first_broken
 broken_behind tree kept = ap (λ (x : Option Breach). or_later x (breach_asked tree)) kept
 
 pub told_fault : (bytes : List ℕ) (tree : Desc) → HasTree bytes tree → (told : Option Breach) → IfSome told (λ b. first_broken tree ≡ Some b)
@@ -64,12 +72,12 @@ rule_faulty bytes tree has f tells = told_fault bytes tree has (told_by f) (by (
     by (Some breach) h = broken_before tree breach h
 
 -- what is asked of a folded description
-pub check_faulty : (bytes : List ℕ) (tree : Desc) → HasTree bytes tree → breach_of tree ≡ None → (f : DescFault) → Tells (breach_asked tree) f → IsFaultOf bytes (rule_fault_of f)
-check_faulty bytes tree has kept f tells = told_fault bytes tree has (told_by f) (by (told_by f) tells)
+pub check_faulty : (bytes : List ℕ) (tree : Desc) → HasTree bytes tree → (plain : Plain) → IsFolded tree plain → (f : DescFault) → Tells (breach_asked plain.description) f → IsFaultOf bytes (rule_fault_of f)
+check_faulty bytes tree has plain folded f tells = told_fault bytes tree has (told_by f) (by (told_by f) tells)
   where
-    by : (told : Option Breach) → IfSome told (λ b. breach_asked tree ≡ Some b) → IfSome told (λ b. first_broken tree ≡ Some b)
+    by : (told : Option Breach) → IfSome told (λ b. breach_asked plain.description ≡ Some b) → IfSome told (λ b. first_broken tree ≡ Some b)
     by None h = h
-    by (Some breach) h = broken_behind tree kept ∙ h
+    by (Some breach) h = broken_behind tree folded.accepted ∙ ap breach_asked (sym folded.description) ∙ h
 
 pub keeps_rules : (tree : Desc) → breach_of tree ≡ None → breach_asked tree ≡ None → KeepsRules tree
 keeps_rules tree kept behind = broken_behind tree kept ∙ behind

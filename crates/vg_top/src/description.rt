@@ -1,5 +1,6 @@
 ghost use Rattle.std.specs.Prelude.{◌≡◌, ◌⊎◌, ℕ, List, None, IfOk, IfErr, IsTrue};
 ghost use Rattle.vg_tok.specs.Lexing.{Lexes};
+ghost use Rattle.vg_ast.specs.declared.desc.Desc.{Desc as TheTree};
 ghost use Rattle.vg_ast.specs.Description.{Reads};
 ghost use Rattle.vg_iss.specs.Kept.{is_memory_free};
 ghost use Rattle.vg_inline.specs.Rules.{IsFolded};
@@ -64,11 +65,10 @@ fn folded(alloc: Global, tree: Desc) -> Result<Plain, DescriptionFault>
 }
 
 /// A folded description keeps the rules of types, formats, behaviours, the binary interface, stages and limits.
-#[tactic(auto, using(crate::proofs::Described::check_faulty))]
 fn checked(alloc: Global, plain: &Plain) -> Result<(), DescriptionFault>
     requires folded { IsFolded plain.now.description plain.now }
     ensures kept { IfOk result (λ _. breach_asked plain.now.description ≡ None) }
-    ensures fault { IfErr result (λ fault. (bytes : List ℕ) → HasTree bytes plain.now.description → IsFaultOf bytes fault) }
+    ensures fault { IfErr result (λ fault. (bytes : List ℕ) (tree : TheTree) → HasTree bytes tree → IsFolded tree plain.now → IsFaultOf bytes fault) }
 {
     Ok(check(alloc, plain)?)
 }
