@@ -12,6 +12,8 @@ from reference import Syntax, TokenFault, description
 
 # what an expression is beside a whole number (an int) and a type: a whole number without a value, or nothing that may be asked
 UNVALUED, UNTYPED = "unvalued", "untyped"
+# what has a type, at a place for a whole number
+OF_A_TYPE = "of a type"
 Type = namedtuple("Type", "kind width")
 BOOL = Type("Bool", 1)
 MACHINE = (16, 32, 64)
@@ -72,10 +74,11 @@ class Types:
         return Type(t.head, width) if width is not None and 1 <= width <= 128 else None
 
     def whole_place(self, e, inner):
-        """A place where a whole number is asked for: its value, or nothing; and whether a range is broken in it."""
+        """A place where a whole number is asked for: its value, that it has a type, or nothing; and whether a range is broken."""
         sort, broken = self.of(e, inner)
         if isinstance(sort, Type):
             self.widths.add(start_of(e))
+            return OF_A_TYPE, broken
         return sort if isinstance(sort, int) else None, broken
 
     def type_place(self, t, inner={}):
@@ -85,8 +88,8 @@ class Types:
         if t.head == "Bool":
             return BOOL, False
         width, broken = self.whole_place(t.parts[0], inner)
-        if width is None:
-            return None, broken
+        if not isinstance(width, int):
+            return width, broken
         if not 1 <= width <= 128:
             self.ranges.add(t.at)
             return None, True
@@ -168,8 +171,8 @@ class Types:
         sort, broken = self.of(e.parts[0], inner)
         target, behind = self.type_place(e.parts[1], inner)
         broken |= behind
-        if target is None:
-            return self.settled(e, True, broken, None)
+        if target in (None, OF_A_TYPE):
+            return self.settled(e, target is None or sort == UNTYPED, broken, None)
         broken |= self.takes(e.parts[0], sort, target)
         right = is_whole(sort) or isinstance(sort, Type) and (target != BOOL or sort.width == 1)
         return self.settled(e, sort == UNTYPED, broken, target if right else None)
@@ -178,12 +181,12 @@ class Types:
         sort, broken = self.of(e.parts[0], inner)
         (high, a), (low, b) = (self.whole_place(part, inner) for part in e.parts[1:])
         broken |= a or b
-        if high is not None and low is not None:
+        if isinstance(high, int) and isinstance(low, int):
             if high < low or isinstance(sort, Type) and sort != BOOL and high >= sort.width:
                 self.ranges.add(e.at)
                 broken = True
-        right = isinstance(sort, Type) and sort != BOOL
-        blocked = sort == UNTYPED or high is None or low is None
+        right = isinstance(sort, Type) and sort != BOOL and OF_A_TYPE not in (high, low)
+        blocked = sort == UNTYPED or None in (high, low)
         return self.settled(e, blocked, broken, Type("Bits", high + 1 - low) if right and not blocked and not broken else None)
 
     def of_join(self, e, inner):
@@ -224,14 +227,14 @@ class Types:
 
     def of_access(self, e, inner):
         size, broken = self.whole_place(e.parts[1], inner)
-        if size is not None and not 1 <= size <= 16:
+        if isinstance(size, int) and not 1 <= size <= 16:
             self.ranges.add(e.at)
             broken = True
         sort, behind = self.of(e.parts[2], inner)
         broken |= behind
         broken |= self.takes(e.parts[2], sort, self.address)
         blocked = size is None or sort == UNTYPED or not self.is_memory_right(e.parts[0].text)
-        right = is_whole(sort) or sort == self.address
+        right = (is_whole(sort) or sort == self.address) and size != OF_A_TYPE
         return self.settled(e, blocked, broken, Type("Bits", 8 * size) if right and not blocked and not broken else None)
 
     # places with a type
@@ -354,7 +357,7 @@ class Types:
             for part in parts:
                 if part.head == "target":
                     number, _ = self.whole_place(part.parts[1], {})
-                    if number is not None and number > 63:
+                    if isinstance(number, int) and number > 63:
                         self.ranges.add(start_of(part.parts[1]))
 
     def role(self, role):
