@@ -124,7 +124,7 @@ def broken(line):
     yield "with an empty line before", ["", line]
     yield "with upper case", [line.upper()]
     yield "with its last byte lacking", [line[:-1]]
-    yield "with one byte more", [line + "0"]
+    yield "with one byte more", [line + ("x" if word == "image" else "0")]
     yield "with two spaces", [word + "  " + rest]
     yield "with another word", ["x" + line]
     yield "with a byte that is no digit", [line[:-1] + "g"]

@@ -12,9 +12,11 @@ PAGES = ["README.md", *sorted(glob.glob("docs/*.md"))]
 # made by a build, or standing for any such file
 NOT_KEPT = re.compile(r"/out/|[*<>{}]|NAME|BUG|\.\.\.")
 PATH = re.compile(r"(?:\./)?(?:crates|docs|tools|examples|dist|\.ci)/[\w./-]+")
-# names of the standard library and of the C library
-OUTSIDE = {"aligned_alloc", "to_string"}
+# names of the standard library, of the C library and of LLVM IR, and an instruction that a page makes up
+OUTSIDE = {"aligned_alloc", "malloc", "memcpy", "memset", "realloc", "to_string", "ORR"}
 NAME = re.compile(r"[A-Za-z][A-Za-z0-9]*(?:_[A-Za-z0-9]+)+|(?:[A-Z][a-z0-9]+){2,}")
+# a word that stands alone between backquotes
+WORD = re.compile(r"[A-Za-z][A-Za-z0-9]*")
 
 
 def names():
@@ -36,7 +38,8 @@ def lacking(page, known):
             if not NOT_KEPT.search(code) and not os.path.exists(path.rstrip("./")):
                 yield path
         if "/" not in code:
-            yield from (it for it in NAME.findall(code) if it not in known | OUTSIDE)
+            asked = [code] if WORD.fullmatch(code) else NAME.findall(code)
+            yield from (it for it in asked if it not in known | OUTSIDE)
 
 
 def main():

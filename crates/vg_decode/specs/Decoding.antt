@@ -18,6 +18,7 @@ abbrev pub finds_step : Tree-F (ℕ → Option ℕ) → ℕ → Option ℕ
 finds_step (Tree-F.Leaf cs) word = first_fit cs word
 finds_step (Tree-F.Test mask none some) word = if nat_eq (bit_and word mask) 0 then none word else some word
 
+-- the number of the first instruction that the word fits, in the leaf to which the tests of the tree lead
 abbrev pub found_in : Tree → ℕ → Option ℕ
 found_in tree = fold-Tree (ℕ → Option ℕ) finds_step tree
 

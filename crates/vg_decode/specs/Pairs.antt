@@ -16,6 +16,7 @@ first_partner one (other ∷ later) =
     option_map_or (λ word. Some (record { a = one.instr; b = other.instr; word = word }))
     (shared_word one.pattern other.pattern) (first_partner one later)
 
+-- the first candidate that shares a word with a later one, and the first of those
 abbrev pub first_pair : List Candidate → Option Pair
 first_pair [] = None
 first_pair (one ∷ later) = option_or (first_partner one later) (first_pair later)

@@ -47,6 +47,7 @@ target_text width power value =
 abbrev pub value_of : List ℕ → FieldId → ℕ
 value_of values f = slice_index_or values f.index 0
 
+-- how many bits the ranges of a field have together
 abbrev pub width_of : Parts → FieldId → ℕ
 width_of d f = bits_of (ranges_of d f)
 

@@ -13,3 +13,6 @@ pub mod TableLemmas
 pub mod Walking
 pub mod BehaviourLemmas
 pub mod ValueLemmas
+pub mod PathLemmas
+pub mod OrderLemmas
+pub mod EvaluationLemmas

@@ -12,3 +12,5 @@ pub mod Behaviour
 pub mod Building
 pub mod Walk
 pub mod NodeValue
+pub mod Order
+pub mod Evaluation

@@ -1,4 +1,5 @@
 use crate::behaviour::add_parts;
+use crate::evaluation::value_at;
 use crate::node::Node;
 use crate::root::Root;
 use crate::roots::Roots;
@@ -6,7 +7,8 @@ use crate::store::Store;
 use sqlite_items::Items;
 use std::alloc::{AllocError, Global};
 use std::marker::Model;
-use vg_isa::{InstrId, Isa};
+use vg_bits::Bits;
+use vg_isa::{InstrId, Isa, View};
 
 /// The nodes of a behaviour, which share what they have in common.
 #[derive(Drop)]
@@ -39,7 +41,8 @@ impl<'a> Model for Graph<'a> {
 impl<'a> Graph<'a> {
     ghost use Rattle.std.specs.Prelude.{◌≡◌, ℕ, ◌+◌, ◌<◌, ◌^◌, [], length, slice_get, Some, None, IfOk, OnErr};
     ghost use Rattle.vg_graph.specs.Node.{args_of};
-    ghost use Rattle.vg_isa.specs.Value.{Reads};
+    ghost use Rattle.vg_isa.specs.Value.{HasDeclaredWidths, Reads};
+    ghost use Rattle.vg_graph.specs.Evaluation.{IsWorth};
     ghost use Rattle.vg_graph.specs.Tree.{Uses};
     ghost use Rattle.vg_graph.specs.Replaced.{HaveOneValue, HaveOneWidth, replaced};
     ghost use Rattle.vg_graph.specs.Graph.{AreUsers, IsAdded, IsFit, IsGraph, IsShared, edges_of, root_of, users_of};
@@ -105,6 +108,27 @@ impl<'a> Graph<'a> {
         ensures { result ≡ root_of self.now.roots r }
     {
         self.roots.node(r)
+    }
+
+    /// The value of the tree at a node, for an instruction word in a state. Each node that it uses is evaluated once.
+    ///
+    /// The word has the width of the formats, and the view stands for a state of the description.
+    pub fn value<V: View>(&self, n: u32, word: Bits, v: &V) -> Result<Bits, AllocError>
+        requires node { n < length self.now.nodes }
+        requires word { word.width ≡ self.now.isa.word }
+        requires registers { V.registers v.now ≡ self.now.isa.regs }
+        requires widths { HasDeclaredWidths self.now.isa (V.reads v.now) }
+        ensures value { IfOk result (λ b. IsWorth self.now.isa self.now.nodes word.number (V.reads v.now) n b) }
+        ensures graph { IsGraph self.now }
+    {
+        value_at(
+            self.store.alloc,
+            self.isa,
+            self.store.nodes.as_slice(),
+            n,
+            word,
+            v,
+        )
     }
 
     /// The nodes that stand for the parts of the instruction.

@@ -17,6 +17,8 @@
 //!   (`IsAdded`); all else stays, and a refusal changes nothing.
 //! - [`Graph::replace_uses`] puts one node in place of another in every operand and every root (`replaced`); all else
 //!   stays. Where the two have one value for a word in a state, each node keeps its value.
+//! - [`Graph::value`] is the value of the tree at a node, for a word in a state, as `vg_isa` defines it, and has the tree's
+//!   width (`IsWorth`).
 //! - [`Graph::first_user`], [`Graph::next_user`] and [`Graph::user`] go over the edges that name a node, [`Graph::node`]
 //!   and [`Graph::root`] read nodes and roots.
 //!
@@ -25,7 +27,9 @@
 //!
 //! **How.** Nodes are found by a table of buckets, which grows with them, so `add` takes constant time on average.
 //! `replace_uses` takes time for the users of the old node, and moves their list at once. `of` goes over the trees by a list
-//! of what is still to do, so they may be deep. Only `empty`, `of` and `add` take memory.
+//! of what is still to do, so they may be deep. `value` lists the nodes that a node uses with operands first, from a
+//! stack, and lets `vg_isa` evaluate each once: its operator over the values of its operands, as constants. Only
+//! `empty`, `of`, `add` and `value` take memory, `value` as much as the graph has nodes.
 //!
 //! **Limits.** All nodes together, and all edges together, stay below 2^32; `add` asks for it. After `replace_uses` two
 //! nodes may have one operator and the same operands. Nodes that nothing uses stay.
@@ -40,12 +44,14 @@
 
 mod behaviour;
 mod building;
+mod evaluation;
 mod graph;
 mod hashing;
 mod laws;
 mod node;
 mod operands;
 mod operator;
+mod order;
 mod root;
 mod roots;
 mod same;

@@ -58,6 +58,7 @@ are_digits (c ∷ cs) = is_ascii_digit c && list_all is_ascii_digit cs
 abbrev pub is_bare_name : List ℕ → Bool
 is_bare_name cs = (is_word_name cs || are_digits cs) || is_quoted cs
 
+-- a name with the `%` (37) or `@` (64) that it begins with
 abbrev pub is_name : List ℕ → Bool
 is_name [] = false
 is_name (c ∷ cs) = (c == 37 || c == 64) && is_bare_name cs

@@ -3,6 +3,5 @@ pub mod AlikeLemmas
 pub mod NormalLemmas
 pub mod OneNodeLemmas
 pub mod GrowingLemmas
-pub mod PathLemmas
 pub mod VisitLemmas
 pub mod RootLemmas

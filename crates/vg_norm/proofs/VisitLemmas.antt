@@ -21,15 +21,17 @@ use Rattle.vg_graph.proofs.Gets.{gets-set_other, gets-set_same, gets-pushed, In-
 use Rattle.vg_graph.proofs.BehaviourLemmas.{Extends_itself}
 use Rattle.vg_graph.proofs.BuildLemmas.{Extends-trans}
 use Rattle.vg_graph.proofs.LevelLemmas.{args_of-node, map_map, node_of-same, operands_in-map}
+use Rattle.vg_graph.specs.Order.{IsPath, unmarked}
+use Rattle.vg_graph.proofs.OrderLemmas.{unmarked_less, was_on_top}
+use Rattle.vg_graph.proofs.PathLemmas.{path_new}
 use Rattle.vg_graph.proofs.TreeLemmas.{below_each, forest, level_of_tree, tree_stays, tree_unique, tree_within}
 use Rattle.vg_norm.specs.declared.growing.Growing.{Growing}
 use Rattle.vg_norm.specs.declared.visit.Visit.{Visit}
 use Rattle.vg_norm.specs.Growing.{IsGrowing, StandBelow, StandsFor}
-use Rattle.vg_norm.specs.Images.{AreImages, AreNodes, HasImage, HasMoreImages, IsDone, IsOverImages, IsPath, IsUnderWay, IsVisit, IsWalk, closed}
+use Rattle.vg_norm.specs.Images.{AreImages, AreNodes, HasImage, HasMoreImages, IsDone, IsOverImages, IsUnderWay, IsVisit, IsWalk}
 use Rattle.vg_norm.proofs.AlikeLemmas.{alike_typed}
 use Rattle.vg_norm.proofs.NormalLemmas.{alike3, at3}
 use Rattle.vg_norm.proofs.GrowingLemmas.{tree_was}
-use Rattle.vg_norm.proofs.PathLemmas.{path_new}
 
 -- ---- a level over the images of its operands
 
@@ -273,22 +275,6 @@ more_itself v = record { extends = Extends_itself v.fresh.graph; stay = λ m don
 pub more_trans : (u v w : Visit) → HasMoreImages u v → HasMoreImages v w → HasMoreImages u w
 more_trans u v w a b = record { extends = Extends-trans u.fresh.graph v.fresh.graph w.fresh.graph a.extends b.extends; stay = λ m done. b.stay m (a.stay m done) }
 
--- going into a node leaves fewer that were never gone into
-pub closed_less : (opened : List Bool) (k : ℕ) → slice_get opened k ≡ Some false → closed (set opened k true) + 1 ≡ closed opened
-closed_less [] k at = absurd cc
-closed_less (b ∷ opened) zero at = let is : b ≡ false = cc in rw is (closed_first opened)
-  where
-    closed_first : (bs : List Bool) → closed (true ∷ bs) + 1 ≡ closed (false ∷ bs)
-    closed_first bs =
-        let left : closed (true ∷ bs) ≡ 0 + closed bs = sum_by-cons (λ (b : Bool). if b then 0 else 1) true bs in
-        let right : closed (false ∷ bs) ≡ 1 + closed bs = sum_by-cons (λ (b : Bool). if b then 0 else 1) false bs in
-        omega arith
-closed_less (b ∷ opened) (suc k) at =
-    let rest : closed (set opened k true) + 1 ≡ closed opened = closed_less opened k at in
-    let left : closed (b ∷ set opened k true) ≡ (if b then 0 else 1) + closed (set opened k true) = sum_by-cons (λ (b : Bool). if b then 0 else 1) b (set opened k true) in
-    let right : closed (b ∷ opened) ≡ (if b then 0 else 1) + closed opened = sum_by-cons (λ (b : Bool). if b then 0 else 1) b opened in
-    omega arith
-
 -- nodes on the stack
 pub nodes_popped : (g : GraphValue) (stack rest : List ℕ) (n : ℕ) → AreNodes g stack → stack ≡ rest ++ n ∷ [] → AreNodes g rest × (n < length g.nodes)
 nodes_popped g stack rest n are is = (
@@ -300,13 +286,6 @@ pub nodes_pushed : (g : GraphValue) (rest : List ℕ) (n : ℕ) → AreNodes g r
 nodes_pushed g rest n are below m among = elim (In-append rest (n ∷ []) m among) [
   | inl before ↦ are m before
   | inr last ↦ subst (λ (k : ℕ). k < length g.nodes) (one-In n m last) below
-]
-
--- what was on the stack is there still, or was on its top
-pub was_popped : (stack rest : List ℕ) (n m : ℕ) → IsIn stack m → stack ≡ rest ++ n ∷ [] → IsIn rest m ⊎ (n ≡ m)
-was_popped stack rest n m among is = elim (In-append rest (n ∷ []) m (subst (λ (ns : List ℕ). IsIn ns m) is among)) [
-  | inl before ↦ inl before
-  | inr last ↦ inr (one-In n m last)
 ]
 
 -- no node has an image at first
@@ -349,32 +328,26 @@ found_pushed v w stack rest once twice root n k more (inr among) popped first se
 
 pub found_popped : (v w : Visit) (stack rest : List ℕ) (root n : ℕ) → HasMoreImages v w → IsDone v.images.items root ⊎ IsIn stack root → stack ≡ rest ++ n ∷ [] → IsDone w.images.items n → IsDone w.images.items root ⊎ IsIn rest root
 found_popped v w stack rest root n more (inl done) popped now = inl (more.stay root done)
-found_popped v w stack rest root n more (inr among) popped now = elim (was_popped stack rest n root among popped) [
+found_popped v w stack rest root n more (inr among) popped now = elim (was_on_top stack rest n root among popped) [
   | inl there ↦ inr there
   | inr is ↦ inl (subst (λ (m : ℕ). IsDone w.images.items m) is now)
 ]
 
 -- going into a node leaves less to do
-pub less_left : (opened advanced entered : List Bool) (stack rest once twice : List ℕ) (n k : ℕ) → advanced ≡ opened → slice_get advanced k ≡ Some false → entered ≡ set advanced k true → stack ≡ rest ++ n ∷ [] → once ≡ rest ++ n ∷ [] → twice ≡ once ++ k ∷ [] → 3 * closed entered + length twice < 3 * closed opened + length stack
+pub less_left : (opened advanced entered : List Bool) (stack rest once twice : List ℕ) (n k : ℕ) → advanced ≡ opened → slice_get advanced k ≡ Some false → entered ≡ set advanced k true → stack ≡ rest ++ n ∷ [] → once ≡ rest ++ n ∷ [] → twice ≡ once ++ k ∷ [] → 3 * unmarked entered + length twice < 3 * unmarked opened + length stack
 less_left opened advanced entered stack rest once twice n k same_opened was entering popped first second =
-    let fewer : closed entered + 1 ≡ closed opened = ap (λ (bs : List Bool). closed bs + 1) entering ∙ closed_less advanced k was ∙ ap closed same_opened in
+    let fewer : unmarked entered + 1 ≡ unmarked opened = ap (λ (bs : List Bool). unmarked bs + 1) entering ∙ unmarked_less advanced k was ∙ ap unmarked same_opened in
     let stack_length : length stack ≡ length rest + 1 = ap length popped ∙ length-append rest (n ∷ []) in
     let once_length : length once ≡ length rest + 1 = ap length first ∙ length-append rest (n ∷ []) in
     let twice_length : length twice ≡ length once + 1 = ap length second ∙ length-append once (k ∷ []) in
     omega arith
 
 -- a node that has its image leaves less to do
-pub less_stacked : (opened advanced : List Bool) (stack rest : List ℕ) (n : ℕ) → advanced ≡ opened → stack ≡ rest ++ n ∷ [] → 3 * closed advanced + length rest < 3 * closed opened + length stack
+pub less_stacked : (opened advanced : List Bool) (stack rest : List ℕ) (n : ℕ) → advanced ≡ opened → stack ≡ rest ++ n ∷ [] → 3 * unmarked advanced + length rest < 3 * unmarked opened + length stack
 less_stacked opened advanced stack rest n same_opened popped =
-    let fewer : closed advanced ≡ closed opened = ap closed same_opened in
+    let fewer : unmarked advanced ≡ unmarked opened = ap unmarked same_opened in
     let stack_length : length stack ≡ length rest + 1 = ap length popped ∙ length-append rest (n ∷ []) in
     omega arith
-
--- no node was gone into at first
-pub none_opened : (count k : ℕ) → slice_get (replicate count false) k ≡ Some true → ⊥
-none_opened zero k at = none-some true at
-none_opened (suc count) zero at = absurd (let h : false ≡ true = same_Some false true at in cc)
-none_opened (suc count) (suc k) at = none_opened count k at
 
 -- what has no image has none
 pub not_done : (images : List (Option ℕ)) (k : ℕ) → slice_get images k ≡ Some None → IsDone images k → ⊥

@@ -1,5 +1,5 @@
 -- The images of the nodes of a graph in one in normal form.
-use Rattle.std.specs.Prelude.{◌≡◌, ℕ, ◌<◌, ◌⊎◌, Bool, true, List, [], ◌∷◌, length, Option, Some, None, slice_get, if◌then◌else◌, sum_by}
+use Rattle.std.specs.Prelude.{◌≡◌, ℕ, ◌<◌, ◌⊎◌, Bool, true, List, [], ◌∷◌, length, Option, Some, None, slice_get}
 use Rattle.vg_isa.specs.declared.expr.Expr.{Expr}
 use Rattle.vg_graph.specs.declared.node.Node.{Node}
 use Rattle.vg_graph.specs.declared.roots.WriteRoots.{WriteRoots}
@@ -90,16 +90,6 @@ pub record HasMoreImages (old new : Visit) : Type 0 where
 abbrev pub IsAdvanced : GraphValue → ℕ → Visit → Option ℕ → Type 0
 IsAdvanced g n new None = IsDone new.images.items n
 IsAdvanced g n new (Some k) = IsOperand g.nodes k n × (slice_get new.images.items k ≡ Some None)
-
--- how many nodes were never gone into
-abbrev pub closed : List Bool → ℕ
-closed opened = sum_by (λ (b : Bool). if b then 0 else 1) opened
-
--- a way from nodes to their operands
-abbrev pub IsPath : List Node → List ℕ → Type 0
-IsPath nodes [] = Unit {0}
-IsPath nodes (n ∷ []) = Unit {0}
-IsPath nodes (n ∷ k ∷ ks) = IsOperand nodes k n × IsPath nodes (k ∷ ks)
 
 -- a node that was gone into has its image, or is on the way
 abbrev pub IsUnderWay : Visit → List ℕ → Type 0

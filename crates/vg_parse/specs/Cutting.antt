@@ -6,6 +6,7 @@ use Rattle.vg_ast.specs.Piece.{cut}
 use Rattle.vg_ast.specs.Piece as piece
 use Rattle.vg_parse.specs.declared.cutting.Depths.{Depths}
 
+-- the counts of the code, as those of the definition of pieces
 abbrev pub depths_of : Depths → piece.Depths
 depths_of d = record { braces = d.braces; parentheses = d.parentheses }
 

@@ -15,20 +15,21 @@ use Rattle.vg_parse_item.specs.Reading.{item_piece, role_piece, micro_item_piece
 use Rattle.vg_parse.specs.declared.state.State.{State}
 use Rattle.vg_parse.specs.declared.state.State.TheVariants.{Start, InIsa, Behind, InAbi, InMicro}
 
--- what is read with this piece; None where it can't stand here
-
+-- in the instruction set part: its closing brace, or one more item
 unfoldable pub isa_step : Heading → List Item → List Placed → Option State
 isa_step heading items piece =
     option_map_or (λ close. Some (Behind (record { name = heading.name; items = items; close = close; abi = None; micro = None })))
     (closing_piece piece)
     (item_piece piece >>= (λ item. Some (InIsa heading (items ++ item ∷ []))))
 
+-- in the application binary interface part: its closing brace, or one more role
 unfoldable pub abi_step : Desc → Heading → List Role → List Placed → Option State
 abi_step desc heading roles piece =
     option_map_or (λ close. Some (Behind (record desc { abi = Some (record { at = heading.at; name = heading.name; roles = roles; close = close }) })))
     (closing_piece piece)
     (role_piece piece >>= (λ role. Some (InAbi desc heading (roles ++ role ∷ []))))
 
+-- in the micro architecture part: its closing brace, or one more item
 unfoldable pub micro_step : Desc → Heading → List MicroItem → List Placed → Option State
 micro_step desc heading items piece =
     option_map_or (λ close. Some (Behind (record desc { micro = Some (record { at = heading.at; name = heading.name; items = items; close = close }) })))
@@ -47,6 +48,7 @@ abi_begin desc piece = option_map_or (λ heading. Some (InAbi desc heading [])) 
 unfoldable pub behind_step : Desc → List Placed → Option State
 behind_step desc piece = if is_some desc.micro then None else (if is_some desc.abi then micro_begin desc piece else abi_begin desc piece)
 
+-- what is read with one more piece, by what was read before it; None where it can't stand there
 unfoldable pub step : State → List Placed → Option State
 step Start piece = isa_heading_piece piece >>= (λ heading. Some (InIsa heading []))
 step (InIsa heading items) piece = isa_step heading items piece
@@ -68,6 +70,7 @@ first_wrong state (piece ∷ more) = option_map_or (λ next. first_wrong next mo
 abbrev pub IsRead : List Token → Desc → Type 0
 IsRead tokens desc = run Start (pieces (placed tokens)) ≡ Some (Behind desc)
 
+-- a state that isn't behind a whole part
 abbrev pub IsNotBehind : State → Type 0
 IsNotBehind state = (desc : Desc) → state ≡ Behind desc → ⊥
 

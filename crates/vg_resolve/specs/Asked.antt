@@ -5,6 +5,7 @@ use Rattle.vg_resolve.specs.declared.asked.Asked.{Asked}
 use Rattle.vg_resolve.specs.declared.asked.Asked.TheVariants as asked
 use Rattle.vg_names.specs.Unknown.{is_value, is_callable, is_alias, is_memory, is_register_file, is_single_goal, is_format, is_instruction, is_resource}
 
+-- the test that a place puts to what its name means
 abbrev pub asked_of : Asked → Meaning → Bool
 asked_of asked.Value = is_value
 asked_of asked.Callable = is_callable

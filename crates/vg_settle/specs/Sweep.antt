@@ -16,6 +16,7 @@ pub record AreStarts (items : List Item) (marks : List Bool) (starts : List ℕ)
 abbrev pub words_ahead : Short → ℕ → List ℕ → ℕ
 words_ahead short k starts = short.words + (slice_index starts short.to - slice_index starts (k + 1)) - short.lead
 
+-- the same for an item that starts at `from` and goes back
 abbrev pub words_back : Short → ℕ → List ℕ → ℕ
 words_back short from starts = from - slice_index starts short.to + short.lead
 

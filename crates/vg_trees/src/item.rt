@@ -2,7 +2,7 @@
 
 use crate::expression::{push_next, push_type};
 use crate::statement::push_statement;
-use crate::words::{push_characters, push_head, push_name, push_next_name};
+use crate::words::{push_characters, push_head, push_head_and_name, push_name, push_next_name};
 use std::alloc::{AllocError, Global};
 use vg_ast::{Field, Fix, Item, Name, NumberFormat, Parameter, Part};
 
@@ -15,8 +15,7 @@ fn push_named(
     name: &Name,
 ) -> Result<(), AllocError> {
     out.push_str("\n")?;
-    push_head(alloc, out, word, at)?;
-    push_next_name(alloc, out, name)
+    push_head_and_name(alloc, out, word, at, name)
 }
 
 fn push_parameter(
@@ -87,97 +86,112 @@ fn push_part(alloc: Global, out: &mut String, part: &Part) -> Result<(), AllocEr
     out.push_str(")")
 }
 
-/// An item on a line of its own.
-pub fn push_item(alloc: Global, out: &mut String, item: &Item) -> Result<(), AllocError> {
+/// What an item begins with.
+fn push_beginning(alloc: Global, out: &mut String, item: &Item) -> Result<(), AllocError> {
     match item {
-        Item::Constant { at, name, value } => {
-            push_named(alloc, out, "constant", *at, name)?;
-            push_next(value.get(), alloc, out)?;
-        }
-        Item::Using { at, name, meaning } => {
-            push_named(alloc, out, "using", *at, name)?;
-            push_type(meaning, alloc, out)?;
-        }
+        Item::Constant { at, name, .. } => push_named(alloc, out, "constant", *at, name),
+        Item::Using { at, name, .. } => push_named(alloc, out, "using", *at, name),
+        Item::Function { at, name, .. } => push_named(alloc, out, "function", *at, name),
+        Item::ProgramCounter { at, name, .. } => push_named(alloc, out, "counter", *at, name),
+        Item::Memory { at, name, .. } => push_named(alloc, out, "memory", *at, name),
+        Item::Register { at, name, .. } => push_named(alloc, out, "register", *at, name),
+        Item::RegisterFile { at, name, .. } => push_named(alloc, out, "file", *at, name),
+        Item::Format { at, name, .. } => push_named(alloc, out, "format", *at, name),
+        Item::Instruction { at, name, .. } => push_named(alloc, out, "instruction", *at, name),
+        Item::Encoding { at, name, .. } => push_named(alloc, out, "encoding", *at, name),
+        Item::Assembly { at, name, .. } => push_named(alloc, out, "assembly", *at, name),
+    }
+}
+
+fn push_parameters(
+    alloc: Global,
+    out: &mut String,
+    parameters: &[Parameter],
+) -> Result<(), AllocError> {
+    for parameter in parameters {
+        push_parameter(alloc, out, parameter)?;
+    }
+    Ok(())
+}
+
+/// The parts of an item that declares something: types, values and parameters.
+fn push_declared(alloc: Global, out: &mut String, item: &Item) -> Result<(), AllocError> {
+    match item {
+        Item::Constant { value, .. } => push_next(value.get(), alloc, out),
+        Item::Using { meaning, .. } => push_type(meaning, alloc, out),
         Item::Function {
-            at,
-            name,
             parameters,
             result,
             body,
+            ..
         } => {
-            push_named(alloc, out, "function", *at, name)?;
-            for parameter in parameters.as_slice() {
-                push_parameter(alloc, out, parameter)?;
-            }
+            push_parameters(alloc, out, parameters.as_slice())?;
             push_type(result, alloc, out)?;
-            push_next(body.get(), alloc, out)?;
+            push_next(body.get(), alloc, out)
         }
-        Item::ProgramCounter { at, name, declared } => {
-            push_named(alloc, out, "counter", *at, name)?;
-            push_type(declared, alloc, out)?;
-        }
-        Item::Memory {
-            at,
-            name,
-            address,
-            cell,
-        } => {
-            push_named(alloc, out, "memory", *at, name)?;
+        Item::ProgramCounter { declared, .. } => push_type(declared, alloc, out),
+        Item::Memory { address, cell, .. } => {
             push_type(address, alloc, out)?;
-            push_type(cell, alloc, out)?;
+            push_type(cell, alloc, out)
         }
-        Item::Register { at, name, declared } => {
-            push_named(alloc, out, "register", *at, name)?;
-            push_type(declared, alloc, out)?;
-        }
+        Item::Register { declared, .. } => push_type(declared, alloc, out),
         Item::RegisterFile {
-            at,
-            name,
             index,
             declared,
             zero,
+            ..
         } => {
-            push_named(alloc, out, "file", *at, name)?;
             push_type(index, alloc, out)?;
             push_type(declared, alloc, out)?;
-            if let Some(zero) = zero {
-                push_next(zero.get(), alloc, out)?;
+            match zero {
+                Some(zero) => push_next(zero.get(), alloc, out),
+                None => Ok(()),
             }
         }
+        _ => Ok(()),
+    }
+}
+
+/// The parts of an item on instructions: fields, behaviour, fixed fields, parts of a line of assembly.
+fn push_coded(alloc: Global, out: &mut String, item: &Item) -> Result<(), AllocError> {
+    match item {
         Item::Format {
-            at,
-            name,
             declared,
             fields,
+            ..
         } => {
-            push_named(alloc, out, "format", *at, name)?;
             push_type(declared, alloc, out)?;
             for field in fields.as_slice() {
                 push_field(alloc, out, field)?;
             }
         }
         Item::Instruction {
-            at,
-            name,
             format,
             behaviour,
+            ..
         } => {
-            push_named(alloc, out, "instruction", *at, name)?;
             push_next_name(alloc, out, format)?;
             push_statement(behaviour.get(), alloc, out)?;
         }
-        Item::Encoding { at, name, fixes } => {
-            push_named(alloc, out, "encoding", *at, name)?;
+        Item::Encoding { fixes, .. } => {
             for fix in fixes.as_slice() {
                 push_fix(alloc, out, fix)?;
             }
         }
-        Item::Assembly { at, name, parts } => {
-            push_named(alloc, out, "assembly", *at, name)?;
+        Item::Assembly { parts, .. } => {
             for part in parts.as_slice() {
                 push_part(alloc, out, part)?;
             }
         }
+        _ => {}
     }
+    Ok(())
+}
+
+/// An item on a line of its own.
+pub fn push_item(alloc: Global, out: &mut String, item: &Item) -> Result<(), AllocError> {
+    push_beginning(alloc, out, item)?;
+    push_declared(alloc, out, item)?;
+    push_coded(alloc, out, item)?;
     out.push_str(")")
 }

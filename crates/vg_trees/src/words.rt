@@ -38,3 +38,15 @@ pub fn push_next_name(alloc: Global, out: &mut String, name: &Name) -> Result<()
     out.push_str(" ")?;
     push_name(alloc, out, name)
 }
+
+/// What a tree begins with, and a name.
+pub fn push_head_and_name(
+    alloc: Global,
+    out: &mut String,
+    word: &str,
+    at: usize,
+    name: &Name,
+) -> Result<(), AllocError> {
+    push_head(alloc, out, word, at)?;
+    push_next_name(alloc, out, name)
+}

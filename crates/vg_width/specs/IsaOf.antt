@@ -48,15 +48,16 @@ use Rattle.vg_isa.specs.declared.abi.Micro.{Micro}
 use Rattle.vg_isa.specs.declared.abi.Stage.{Stage}
 use Rattle.vg_isa.specs.declared.abi.Act.{Act}
 use Rattle.vg_isa.specs.declared.abi.Act.TheVariants as acts
-use Rattle.vg_width.specs.FieldCover.{width_or, field_ends}
-use Rattle.vg_width.specs.AbiRole.{number_of, index_of, return_value, arguments, registers_of, code_base, data_base, stack_ends}
-use Rattle.vg_width.specs.Resource.{is_counter, register_id, format_id, resource_id}
-use Rattle.vg_width.specs.declared.reading.Reading.{Reading}
-use Rattle.vg_width.specs.Made.{Frame}
-use Rattle.vg_width.specs.declared.written.Written.{Written}
-use Rattle.vg_width.specs.Written.{written}
-use Rattle.vg_width.specs.Access.{frame_of}
-use Rattle.vg_width.specs.StageOrder.{effect_writes}
+use Rattle.vg_tree.specs.Number.{width_or}
+use Rattle.vg_declare.specs.FieldCover.{field_ends}
+use Rattle.vg_declare.specs.AbiRole.{number_of, index_of, return_value, arguments, registers_of, code_base, data_base, stack_ends}
+use Rattle.vg_tree.specs.Resource.{is_counter, register_id, format_id, resource_id}
+use Rattle.vg_tree.specs.declared.reading.Reading.{Reading}
+use Rattle.vg_tree.specs.Made.{Frame}
+use Rattle.vg_tree.specs.declared.written.Written.{Written}
+use Rattle.vg_tree.specs.Written.{written}
+use Rattle.vg_tree.specs.Access.{frame_of}
+use Rattle.vg_stage.specs.StageOrder.{effect_writes}
 
 -- a name in UTF-8
 abbrev pub bytes_of : Text → List ℕ

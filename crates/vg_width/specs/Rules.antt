@@ -11,12 +11,12 @@ use Rattle.vg_rule.specs.declared.rule.Rule.TheVariants as rules
 use Rattle.vg_rule.specs.declared.breach.Breach.{Breach}
 use Rattle.vg_rule.specs.Breach.{first_breach, or_later}
 use Rattle.vg_rule.specs.Order.{check_order}
-use Rattle.vg_width.specs.FieldCover.{covers}
-use Rattle.vg_width.specs.FieldValue.{values}
-use Rattle.vg_width.specs.Access.{two_writes, two_accesses, indices_not_fields}
-use Rattle.vg_width.specs.AbiRole.{abi_breaks}
-use Rattle.vg_width.specs.StageOrder.{stage_breaks}
-use Rattle.vg_width.specs.Limit.{beyond_limits}
+use Rattle.vg_declare.specs.FieldCover.{covers}
+use Rattle.vg_declare.specs.FieldValue.{values}
+use Rattle.vg_tree.specs.Access.{two_writes, two_accesses, indices_not_fields}
+use Rattle.vg_declare.specs.AbiRole.{abi_breaks}
+use Rattle.vg_stage.specs.StageOrder.{stage_breaks}
+use Rattle.vg_declare.specs.Limit.{beyond_limits}
 use Rattle.vg_width.specs.IsaOf.{isa_by}
 
 -- the places at which a description breaks a rule, in the order of the text; no others are asked here

@@ -9,21 +9,17 @@ ghost use Rattle.vg_type.specs.Setting.{setting_in};
 ghost use Rattle.vg_width.specs.Asking.{IsKept, first_place};
 ghost use Rattle.vg_width.specs.Rules.{breach_asked};
 
-use crate::abi_role::first_abi_break;
-use crate::field_cover::first_uncovered;
-use crate::field_value::first_unfit;
-use crate::index_field::first_index_not_field;
-use crate::limit::first_beyond;
-use crate::stage_order::first_stage_break;
 use std::alloc::{AllocError, Global};
 use vg_ast::Desc;
+use vg_declare::{first_abi_break, first_beyond, first_uncovered, first_unfit};
 use vg_inline::{Context, Plain, counts, make_bodies};
 use vg_names::Table;
 use vg_rule::DescFault;
+use vg_stage::{first_index_not_field, first_stage_break};
 use vg_type::{Setting, first_faults};
 
 /// The first place at which a format doesn't name each of its bits once.
-#[tactic(auto, using(crate::proofs::NarrowLemmas::are_narrow_in))]
+#[tactic(auto, using(vg_declare::proofs::NarrowLemmas::are_narrow_in))]
 fn uncovered(d: &Desc, setting: &Setting) -> Option<usize>
     requires setting { setting_in setting.now.context.now ≡ setting_of d.now.items }
     requires ranges { IsKept d.now rules.Range }

@@ -1,20 +1,9 @@
 ghost use Rattle.vg_ast.specs.declared.desc.Desc.{Desc};
 ghost use Rattle.vg_rule.specs.Breach.{OneAnswer};
 ghost use Rattle.vg_rule.specs.Order.{check_order};
-ghost use Rattle.vg_inline.specs.declared.tree.Tree.{Tree};
-ghost use Rattle.vg_isa.specs.declared.isa.Parts.{Parts};
-ghost use Rattle.vg_width.specs.Made.{Frame, made};
 ghost use Rattle.vg_width.specs.Rules.{places_of};
-ghost use Rattle.vg_width.specs.TypedMade.{IsFrameOf, IsTypedMade};
 
 /// A law: a description keeps all these rules, or breaks one first at one place, and only one of these holds.
 pub fn one_answer()
     ensures { (d : Desc) → OneAnswer (places_of d) check_order }
-{}
-
-/// A law: for a processor that has the fields, registers and addresses of a frame, what stands for any tree has the width
-/// of what it is, and each operand in it the width that its place needs. So no tree that is made has an operand of a wrong
-/// width, whatever the tree that it stands for.
-pub fn made_is_typed()
-    ensures { (d : Parts) (frame : Frame) → IsFrameOf d frame → (t : Tree) → IsTypedMade d (made frame t) }
 {}

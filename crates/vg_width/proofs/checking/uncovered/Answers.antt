@@ -1,6 +1,6 @@
 -- Where ranges are kept, formats are narrow.
 use Rattle.vg_type.specs.Setting.{setting_in}
-use Rattle.vg_width.proofs.NarrowLemmas.{are_narrow_in}
+use Rattle.vg_declare.proofs.NarrowLemmas.{are_narrow_in}
 use Rattle.vg_width.proofs.checking.uncovered.Goals as goal
 
 pub first_uncovered-requires : goal.first_uncovered-requires

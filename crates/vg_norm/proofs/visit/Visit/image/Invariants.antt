@@ -1,6 +1,7 @@
 use Rattle.std.proofs.Common.{ℕ, ◌+◌, ◌*◌, ◌⊎◌, length}
 use Rattle.vg_graph.specs.Node.{IsIn}
-use Rattle.vg_norm.specs.Images.{AreNodes, HasMoreImages, IsDone, IsPath, IsUnderWay, IsWalk, closed}
+use Rattle.vg_norm.specs.Images.{AreNodes, HasMoreImages, IsDone, IsUnderWay, IsWalk}
+use Rattle.vg_graph.specs.Order.{IsPath, unmarked}
 use Rattle.vg_norm.proofs.visit.Visit.image.Given as goal
 
 abbrev pub invariant-loop-n : goal.invariant-loop-n
@@ -14,4 +15,4 @@ invariant-loop-n l = record {
 }
 
 abbrev pub decreases-loop-n : goal.decreases-loop-n
-decreases-loop-n l = 3 * closed l.self.opened.items + length l.stack.items
+decreases-loop-n l = 3 * unmarked l.self.opened.items + length l.stack.items

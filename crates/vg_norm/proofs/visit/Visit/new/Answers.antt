@@ -1,7 +1,8 @@
 use Rattle.std.proofs.Common.{◌≡◌, ℕ, List, Option, Some, None, Bool, true, false, length, replicate, sym, ap, ◌∙◌, subst}
 use Rattle.std.specs.Prelude.{slice_get}
 use Rattle.std.proofs.lemmas.List.{length-replicate}
-use Rattle.vg_norm.proofs.VisitLemmas.{none_found, none_opened}
+use Rattle.vg_graph.proofs.OrderLemmas.{none_marked}
+use Rattle.vg_norm.proofs.VisitLemmas.{none_found}
 use Rattle.vg_norm.proofs.visit.Visit.new.Goals as goal
 
 pub returns-clause-visit : goal.returns-clause-visit
@@ -13,5 +14,5 @@ returns-clause-visit c =
       images = ap length c.in_ok-images.ensures ∙ length-replicate count None ∙ c.count-count.ensures;
       open_nodes = ap length c.in_ok-opened.ensures ∙ length-replicate count false ∙ c.count-count.ensures;
       each = λ k j at. absurd (none_found count k j (subst (λ (images : List (Option ℕ)). slice_get images k ≡ Some (Some j)) c.in_ok-images.ensures at));
-      settled = λ k at. absurd (none_opened count k (subst (λ (opened : List Bool). slice_get opened k ≡ Some true) c.in_ok-opened.ensures at));
+      settled = λ k at. absurd (none_marked count k (subst (λ (opened : List Bool). slice_get opened k ≡ Some true) c.in_ok-opened.ensures at));
     }

@@ -1,0 +1,4 @@
+pub mod UpTo
+pub mod SecondReadings
+pub mod Gathered
+pub mod Whole

@@ -1,0 +1,12 @@
+use Rattle.std.proofs.Common.{◌≡◌, drop}
+use Rattle.vg_inline.specs.Context.{items_of}
+use Rattle.vg_names.specs.First.{first_of}
+use Rattle.vg_names.specs.Unknown.{in_each}
+use Rattle.vg_type.specs.Setting.{setting_in}
+use Rattle.vg_declare.specs.FieldCover.{item_covers}
+use Rattle.vg_declare.proofs.field_cover.first_uncovered.Given as goal
+
+abbrev pub invariant-loop-item : goal.invariant-loop-item
+invariant-loop-item l =
+    let setting = setting_in l.setting.context.now in
+    first_of (in_each (item_covers setting) (items_of l.setting.context.now)) ≡ first_of (in_each (item_covers setting) (drop l.item-index (items_of l.setting.context.now)))

@@ -1,0 +1,6 @@
+pub mod Reading
+pub mod Memory
+pub mod Order
+pub mod Members
+pub mod Placed
+pub mod Steps

@@ -1,0 +1,10 @@
+pub mod TreeParts
+pub mod StageLemmas
+pub mod StageFirst
+pub mod StageKeys
+pub mod ClearLemmas
+pub mod StageUses
+pub mod StageWhole
+pub mod EarliestLemmas
+pub mod IndexLemmas
+pub mod IndexWhole

@@ -1,0 +1,9 @@
+pub mod Number
+pub mod Resource
+pub mod Fields
+pub mod Made
+pub mod Written
+pub mod Access
+pub mod Frame
+pub mod TypedMade
+pub mod SameTree

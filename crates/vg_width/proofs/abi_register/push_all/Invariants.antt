@@ -1,7 +1,0 @@
-use Rattle.std.proofs.Common.{◌≡◌, ◌++◌, drop, map}
-use Rattle.vg_type.specs.Setting.{setting_in}
-use Rattle.vg_width.specs.AbiRole.{index_of}
-use Rattle.vg_width.proofs.abi_register.push_all.Given as goal
-
-abbrev pub invariant-loop-register : goal.invariant-loop-register
-invariant-loop-register l = l.initial.all.items ++ map (index_of (setting_in l.setting.context.now)) l.registers ≡ l.all.items ++ map (index_of (setting_in l.setting.context.now)) (drop l.register-index l.registers)

@@ -1,6 +1,0 @@
-use Rattle.std.proofs.Common.{◌≡◌, drop}
-use Rattle.vg_width.specs.AbiRole.{stand_once}
-use Rattle.vg_width.proofs.abi_role.stand_once.Given as goal
-
-abbrev pub invariant-loop-i : goal.invariant-loop-i
-invariant-loop-i l = stand_once l.roles ≡ stand_once (drop l.i l.roles)

@@ -1,6 +1,0 @@
-use Rattle.vg_width.specs.Access.{wrong_indices}
-use Rattle.vg_width.proofs.IndexLemmas.{LeastLeft}
-use Rattle.vg_width.proofs.index_field.+effect.Given as goal
-
-abbrev pub invariant-effects_break-loop-effect : goal.invariant-effects_break-loop-effect
-invariant-effects_break-loop-effect l = LeastLeft wrong_indices l.effects l.effect-index l.first

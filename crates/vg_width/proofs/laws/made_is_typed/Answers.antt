@@ -1,5 +1,0 @@
-use Rattle.vg_width.proofs.TypedTrees.{typed-made}
-use Rattle.vg_width.proofs.laws.made_is_typed.Goals as goal
-
-pub returns : goal.returns
-returns c d frame is t = typed-made d frame is t
