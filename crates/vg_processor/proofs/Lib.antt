@@ -1,5 +1,0 @@
-mod LoopLemmas
-mod WidthLemmas
-mod NumberLemmas
-mod FileLemmas
-pub mod AbiLemmas
