@@ -1,0 +1,5 @@
+mod LoopLemmas
+mod WidthLemmas
+mod NumberLemmas
+mod FileLemmas
+pub mod AbiLemmas

@@ -1,0 +1,8 @@
+use Rattle.std.proofs.Common.{◌≡◌, take}
+use Rattle.std.specs.List.{filter_map}
+use Rattle.vg_type.specs.Setting.{setting_in}
+use Rattle.vg_width.specs.IsaOf.{format_decl}
+use Rattle.vg_processor.proofs.formats.formats_of.Given as goal
+
+abbrev pub invariant-loop-item : goal.invariant-loop-item
+invariant-loop-item l = l.formats ≡ filter_map (format_decl (setting_in l.setting.context.now)) (take l.item-index l.items)
