@@ -11,8 +11,8 @@ ghost use Rattle.vg_width.specs.IsaOf.{field_id as field_by, field_named as name
 use std::alloc::AllocError;
 use vg_ast::{Field, Item};
 use vg_isa::FieldId;
-use vg_type::{Setting, field_type, width_of};
 use vg_tree::Frame;
+use vg_type::{Setting, field_type, width_of};
 
 /// The number of the first field of a name, 0 where there is none. So many that they have no numbers wouldn't fit memory.
 fn index_among(fields: &[Field], text: &[char]) -> Result<u32, AllocError>

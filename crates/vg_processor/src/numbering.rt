@@ -11,8 +11,8 @@ ghost use Rattle.vg_tree.specs.Resource.{count_before, is_memory as is_memory_it
 use std::alloc::AllocError;
 use vg_ast::Item;
 use vg_isa::{RegId, ResourceId};
-use vg_type::Setting;
 use vg_tree::Resource;
+use vg_type::Setting;
 
 /// The number of the item of a name, 0 where there is none.
 pub(crate) fn number_named(text: &[char], setting: &Setting) -> usize
