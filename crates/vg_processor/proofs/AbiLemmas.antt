@@ -6,7 +6,7 @@ use Rattle.vg_ast.specs.declared.abi.Abi.{Abi as GivenAbi}
 use Rattle.vg_isa.specs.declared.abi.Abi.{Abi}
 use Rattle.vg_type.specs.Item.{Setting}
 use Rattle.vg_declare.specs.AbiRole.{index_of, return_value, arguments, code_base, data_base, stack_ends}
-use Rattle.vg_width.specs.IsaOf.{abi_of, files_of, first_or, second_or, registers_in, stack_pointer, return_address, temporaries, saved}
+use Rattle.vg_processor.specs.IsaOf.{abi_of, files_of, first_or, second_or, registers_in, stack_pointer, return_address, temporaries, saved}
 use Rattle.vg_processor.specs.AbiFrom.{abi_from}
 
 behind : {Y Z : Type 0} (f : Y → Z) (xs ys : List Y) → map f xs ++ map f ys ≡ map f (xs ++ ys)

@@ -7,7 +7,7 @@ use Rattle.vg_inline.specs.Inline.{number_or}
 use Rattle.vg_type.specs.Item.{Setting}
 use Rattle.vg_tree.specs.Resource.{register_id}
 use Rattle.vg_declare.specs.AbiRole.{registers_of}
-use Rattle.vg_width.specs.IsaOf.{files_of, first_or}
+use Rattle.vg_processor.specs.IsaOf.{files_of, first_or}
 use Rattle.vg_declare.specs.Registers.{first_register}
 
 some_equal : {A : Type 0} (a b : A) → Some a ≡ Some b → a ≡ b

@@ -1,14 +1,15 @@
 -- Lists that a loop makes: what they are with one element more.
-use Rattle.std.proofs.Common.{◌≡◌, ℕ, suc, zero, ◌+◌, ◌<◌, List, [], ◌∷◌, ◌++◌, length, flat_map, take, get_or, Option, Some, None, refl, sym, ap, ◌∙◌, arith}
+use Rattle.std.proofs.Common.{◌≡◌, ℕ, suc, zero, ◌+◌, ◌<◌, List, [], ◌∷◌, ◌++◌, length, flat_map, take, get_or, slice_get, Option, Some, None, refl, sym, ap, ◌∙◌, arith}
 use Rattle.std.specs.Prelude.{encode_utf8, encode_utf8_all}
 use Rattle.std.specs.List.{filter_map, cons_option}
-use Rattle.std.specs.Option.{option_to_list}
+use Rattle.std.specs.Option.{option_map, option_to_list}
 
-right_nil : {A : Type 0} (xs : List A) → xs ++ [] ≡ xs
+-- lists by their parts
+pub right_nil : {A : Type 0} (xs : List A) → xs ++ [] ≡ xs
 right_nil [] = refl
 right_nil (x ∷ xs) = ap (λ ys. x ∷ ys) (right_nil xs)
 
-grouped : {A : Type 0} (xs ys zs : List A) → (xs ++ ys) ++ zs ≡ xs ++ (ys ++ zs)
+pub grouped : {A : Type 0} (xs ys zs : List A) → (xs ++ ys) ++ zs ≡ xs ++ (ys ++ zs)
 grouped [] ys zs = refl
 grouped (x ∷ xs) ys zs = ap (λ vs. x ∷ vs) (grouped xs ys zs)
 
@@ -59,3 +60,13 @@ pub each_more : {X Y : Type 0} (f : X → List Y) (xs : List X) (i : ℕ) (x : X
     → longer ≡ done ++ more → longer ≡ flat_map f (take (i + 1) xs)
 each_more f xs i x more done longer d h is e l =
     l ∙ ap (λ ys. ys ++ more) d ∙ ap (λ m. flat_map f (take i xs) ++ m) (e ∙ ap f is) ∙ sym (each_by f xs i x h) ∙ ap (λ n. flat_map f (take n xs)) (sym (one_on i))
+
+-- ---- what is made of the element at a number
+
+same_some : {Y : Type 0} (a b : Y) → Some a ≡ Some b → a ≡ b
+same_some a b h = cc
+
+pub made_at : {X Y : Type 0} (f : X → Y) (xs : List X) (n : ℕ) (y : Y) (d : X) → Some y ≡ option_map f (slice_get xs n) → y ≡ f (get_or xs n d)
+made_at f [] n y d e = absurd (cc)
+made_at f (x ∷ xs) zero y d e = same_some y (f x) e
+made_at f (x ∷ xs) (suc n) y d e = made_at f xs n y d e

@@ -3,7 +3,7 @@ use Rattle.std.specs.Prelude.{List}
 use Rattle.vg_ast.specs.declared.role.Role.{Role}
 use Rattle.vg_type.specs.Item.{Setting}
 use Rattle.vg_isa.specs.declared.abi.Abi.{Abi}
-use Rattle.vg_width.specs.IsaOf.{files_of, first_or, second_or}
+use Rattle.vg_processor.specs.IsaOf.{files_of, first_or, second_or}
 use Rattle.vg_processor.specs.declared.role_part.RolePart.TheVariants as part
 use Rattle.vg_processor.specs.RoleNumbers.{numbers_in}
 

@@ -3,7 +3,7 @@ use Rattle.std.specs.Prelude.{ℕ, List, map, flat_map}
 use Rattle.vg_ast.specs.declared.role.Role.{Role}
 use Rattle.vg_type.specs.Item.{Setting}
 use Rattle.vg_declare.specs.AbiRole.{index_of, return_value, arguments, code_base, data_base, stack_ends}
-use Rattle.vg_width.specs.IsaOf.{stack_pointer, return_address, temporaries, saved}
+use Rattle.vg_processor.specs.IsaOf.{stack_pointer, return_address, temporaries, saved}
 use Rattle.vg_processor.specs.declared.role_part.RolePart.{RolePart}
 use Rattle.vg_processor.specs.declared.role_part.RolePart.TheVariants as part
 

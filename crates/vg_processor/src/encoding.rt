@@ -3,7 +3,7 @@
 ghost use Rattle.std.specs.Prelude.{◌≡◌, ◌++◌, true, flat_map, map, IfOk, OnOk};
 ghost use Rattle.std.specs.List.{list_all};
 ghost use Rattle.vg_type.specs.Setting.{setting_in};
-ghost use Rattle.vg_width.specs.IsaOf.{fixed_by, fixed_field as fixed_as};
+ghost use Rattle.vg_processor.specs.IsaOf.{fixed_by, fixed_field as fixed_as};
 ghost use Rattle.vg_processor.specs.Held.{holds_fix, holds_fixed_by};
 
 use crate::fields::{field_id, field_named, fields_in, width_named};

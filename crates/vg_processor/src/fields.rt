@@ -6,7 +6,7 @@ ghost use Rattle.vg_ast.specs.declared.field.Field.{Field as FieldOf};
 ghost use Rattle.vg_isa.specs.Typing.{is_width};
 ghost use Rattle.vg_names.specs.Definition.{fields_of_format};
 ghost use Rattle.vg_type.specs.Setting.{setting_in};
-ghost use Rattle.vg_width.specs.IsaOf.{field_id as field_by, field_named as named_in, fields_in as fields_of_item, index_from, width_named as width_by};
+ghost use Rattle.vg_processor.specs.IsaOf.{field_id as field_by, field_named as named_in, fields_in as fields_of_item, index_from, width_named as width_by};
 
 use std::alloc::AllocError;
 use vg_ast::{Field, Item};

@@ -4,7 +4,7 @@ ghost use Rattle.std.specs.Prelude.{◌≡◌, true, map, IfOk};
 ghost use Rattle.std.specs.List.{filter_map, list_all};
 ghost use Rattle.vg_type.specs.Setting.{setting_in};
 ghost use Rattle.vg_declare.specs.FieldCover.{ends_of as ends_written};
-ghost use Rattle.vg_width.specs.IsaOf.{field_decl, format_decl};
+ghost use Rattle.vg_processor.specs.IsaOf.{field_decl, format_decl};
 ghost use Rattle.vg_processor.specs.Held.{holds_field, holds_format_of, holds_range};
 
 use crate::lists::push_some;

@@ -4,7 +4,7 @@ ghost use Rattle.std.specs.Prelude.{◌≡◌, true, flat_map, IfOk};
 ghost use Rattle.std.specs.Option.{option_copied};
 ghost use Rattle.vg_type.specs.Setting.{setting_in};
 ghost use Rattle.vg_declare.specs.AbiRole.{registers_of};
-ghost use Rattle.vg_width.specs.IsaOf.{abi_of as abi_by, files_of, first_or as first_of_all};
+ghost use Rattle.vg_processor.specs.IsaOf.{abi_of as abi_by, files_of, first_or as first_of_all};
 ghost use Rattle.vg_declare.specs.Registers.{first_register as first_of_registers};
 ghost use Rattle.vg_processor.specs.AbiFrom.{abi_from};
 ghost use Rattle.vg_processor.specs.Held.{holds_abi};

@@ -6,7 +6,7 @@ ghost use Rattle.std.specs.Option.{option_map, option_map_or};
 ghost use Rattle.vg_isa.specs.Typing.{is_width};
 ghost use Rattle.vg_type.specs.Setting.{setting_in};
 ghost use Rattle.vg_declare.specs.AbiRole.{number_of as number_written};
-ghost use Rattle.vg_width.specs.IsaOf.{bytes_of, counter_of as counter_declared, declared_width as width_declared, memory_name as name_of_memory, register_decl};
+ghost use Rattle.vg_processor.specs.IsaOf.{bytes_of, counter_of as counter_declared, declared_width as width_declared, memory_name as name_of_memory, register_decl};
 ghost use Rattle.vg_processor.specs.Held.{holds_register_of, is_byte};
 
 use crate::lists::push_some;

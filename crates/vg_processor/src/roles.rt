@@ -4,7 +4,7 @@ ghost use Rattle.std.specs.Prelude.{◌≡◌, ◌++◌, true, map, IfOk, OnOk};
 ghost use Rattle.std.specs.List.{list_all};
 ghost use Rattle.vg_type.specs.Setting.{setting_in};
 ghost use Rattle.vg_declare.specs.AbiRole.{index_of as index_in};
-ghost use Rattle.vg_width.specs.IsaOf.{first_or as first_of_all, second_or as second_of_all};
+ghost use Rattle.vg_processor.specs.IsaOf.{first_or as first_of_all, second_or as second_of_all};
 ghost use Rattle.vg_processor.specs.Held.{is_byte, is_long};
 ghost use Rattle.vg_processor.specs.RoleNumbers.{numbers_by, numbers_in};
 

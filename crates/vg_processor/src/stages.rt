@@ -5,7 +5,7 @@ ghost use Rattle.std.specs.List.{filter_map};
 ghost use Rattle.vg_inline.specs.Inline.{number_or};
 ghost use Rattle.vg_names.specs.Numbers.{number_named as number_by};
 ghost use Rattle.vg_type.specs.Setting.{setting_in};
-ghost use Rattle.vg_width.specs.IsaOf.{act_of as act_by, forwarded as forwarded_by, micro_of as micro_by, stage_of as stage_by};
+ghost use Rattle.vg_processor.specs.IsaOf.{act_of as act_by, forwarded as forwarded_by, micro_of as micro_by, stage_of as stage_by};
 ghost use Rattle.vg_tree.specs.Resource.{resource_id as resource_by};
 
 use crate::lists::push_some;

@@ -8,7 +8,7 @@ ghost use Rattle.vg_names.specs.Numbers.{number_named as number_by};
 ghost use Rattle.vg_type.specs.Setting.{setting_in};
 ghost use Rattle.vg_tree.specs.Resource.{register_id as register_by};
 ghost use Rattle.vg_declare.specs.AbiRole.{number_of as number_in};
-ghost use Rattle.vg_width.specs.IsaOf.{field_id as field_by, first_some, number_part as number_part_of, part_of as part_by, template_by};
+ghost use Rattle.vg_processor.specs.IsaOf.{field_id as field_by, first_some, number_part as number_part_of, part_of as part_by, template_by};
 
 use crate::fields::field_id;
 use crate::numbering::{number_named, register_id};

@@ -1,3 +1,2 @@
-pub mod IsaOf
 pub mod Rules
 pub mod Asking

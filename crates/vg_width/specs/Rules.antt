@@ -17,7 +17,7 @@ use Rattle.vg_tree.specs.Access.{two_writes, two_accesses, indices_not_fields}
 use Rattle.vg_declare.specs.AbiRole.{abi_breaks}
 use Rattle.vg_stage.specs.StageOrder.{stage_breaks}
 use Rattle.vg_declare.specs.Limit.{beyond_limits}
-use Rattle.vg_width.specs.IsaOf.{isa_by}
+use Rattle.vg_processor.specs.IsaOf.{isa_of}
 
 -- the places at which a description breaks a rule, in the order of the text; no others are asked here
 abbrev pub places_of : Desc → Rule → List ℕ
@@ -55,10 +55,6 @@ first_broken d = or_later (breach_of d) (breach_asked d)
 -- a description keeps all of them
 abbrev pub KeepsRules : Desc → Type 0
 KeepsRules d = first_broken d ≡ None
-
--- the processor that a description stands for
-unfoldable pub isa_of : Desc → Parts
-isa_of d = isa_by (setting_of d.items) (known_of d.items) d
 
 -- a description keeps all these rules, and this is its processor
 pub record IsChecked (d : Desc) (isa : Parts) : Type 0 where

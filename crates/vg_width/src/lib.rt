@@ -4,7 +4,7 @@
 //! items (`vg_inline::Plain`). Out comes the first of these rules that it breaks, at its first place, or nothing
 //! ([`check`]). `specs/Rules.antt` has for each rule the list of places at which a description breaks it (`places_of`,
 //! in the order of the text), the order in which the rules are asked, and the processor that it stands for where it
-//! keeps them all (`isa_of`, put together by `specs/IsaOf.antt`).
+//! keeps them all (`isa_of`, of vg_processor).
 //!
 //! The theorem: `check` answers nothing exactly where the rules that are asked (`asked_order`) are kept, and else
 //! exactly the first that is broken. A law says that a description keeps all rules or breaks exactly one of them first

@@ -1,6 +1,6 @@
 use Rattle.std.proofs.Common.{◌≡◌, flat_map, take}
 use Rattle.vg_type.specs.Setting.{setting_in}
-use Rattle.vg_width.specs.IsaOf.{fixed_by}
+use Rattle.vg_processor.specs.IsaOf.{fixed_by}
 use Rattle.vg_processor.proofs.encoding.fixed_of.Given as goal
 
 abbrev pub invariant-loop-item : goal.invariant-loop-item

@@ -1,5 +1,5 @@
 use Rattle.std.proofs.Common.{◌≡◌, drop}
-use Rattle.vg_width.specs.IsaOf.{field_named}
+use Rattle.vg_processor.specs.IsaOf.{field_named}
 use Rattle.vg_processor.proofs.fields.field_named.Given as goal
 
 abbrev pub invariant-loop-field : goal.invariant-loop-field

@@ -1,6 +1,6 @@
 use Rattle.std.proofs.Common.{◌≡◌, length, map}
 use Rattle.vg_ast.specs.declared.field.Field.{Field}
-use Rattle.vg_width.specs.IsaOf.{index_from}
+use Rattle.vg_processor.specs.IsaOf.{index_from}
 use Rattle.vg_processor.proofs.fields.index_among.Given as goal
 
 abbrev pub invariant-loop-field : goal.invariant-loop-field

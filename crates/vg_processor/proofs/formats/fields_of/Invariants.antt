@@ -1,6 +1,6 @@
 use Rattle.std.proofs.Common.{◌≡◌, map, take}
 use Rattle.vg_type.specs.Setting.{setting_in}
-use Rattle.vg_width.specs.IsaOf.{field_decl}
+use Rattle.vg_processor.specs.IsaOf.{field_decl}
 use Rattle.vg_processor.proofs.formats.fields_of.Given as goal
 
 abbrev pub invariant-loop-field : goal.invariant-loop-field

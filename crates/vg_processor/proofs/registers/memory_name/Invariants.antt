@@ -1,5 +1,5 @@
 use Rattle.std.proofs.Common.{◌≡◌, drop}
-use Rattle.vg_width.specs.IsaOf.{memory_name}
+use Rattle.vg_processor.specs.IsaOf.{memory_name}
 use Rattle.vg_processor.proofs.registers.memory_name.Given as goal
 
 abbrev pub invariant-loop-item : goal.invariant-loop-item

@@ -1,7 +1,7 @@
 use Rattle.std.proofs.Common.{◌≡◌, take}
 use Rattle.std.specs.List.{filter_map}
 use Rattle.vg_type.specs.Setting.{setting_in}
-use Rattle.vg_width.specs.IsaOf.{register_decl}
+use Rattle.vg_processor.specs.IsaOf.{register_decl}
 use Rattle.vg_processor.proofs.registers.registers_of.Given as goal
 
 abbrev pub invariant-loop-item : goal.invariant-loop-item

@@ -1,6 +1,6 @@
 use Rattle.std.proofs.Common.{◌≡◌, map, take}
 use Rattle.vg_type.specs.Setting.{setting_in}
-use Rattle.vg_width.specs.IsaOf.{part_of}
+use Rattle.vg_processor.specs.IsaOf.{part_of}
 use Rattle.vg_processor.proofs.template.parts_of.Given as goal
 
 abbrev pub invariant-loop-part : goal.invariant-loop-part

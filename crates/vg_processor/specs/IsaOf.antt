@@ -29,9 +29,9 @@ use Rattle.vg_names.specs.Definition.{Text, item_named, fields_of_format}
 use Rattle.vg_names.specs.Numbers.{number_named}
 use Rattle.vg_inline.specs.declared.effect.Effect.{Effect}
 use Rattle.vg_inline.specs.Inline.{number_or}
-use Rattle.vg_inline.specs.InPlace.{Known, behaviour_of}
+use Rattle.vg_inline.specs.InPlace.{Known, behaviour_of, known_of}
 use Rattle.vg_type.specs.Scope.{declared_in, width_in, bits_named}
-use Rattle.vg_type.specs.Item.{Setting, first_format, width_given}
+use Rattle.vg_type.specs.Item.{Setting, first_format, setting_of, width_given}
 use Rattle.vg_isa.specs.declared.isa.Parts.{Parts}
 use Rattle.vg_isa.specs.declared.ids.FieldId.{FieldId}
 use Rattle.vg_isa.specs.declared.ids.RegId.{RegId}
@@ -300,3 +300,7 @@ isa_by setting known d =
       abi = option_map (abi_of setting) d.abi;
       micro = option_map (micro_of setting) d.micro;
     }
+
+-- the processor that a description stands for
+unfoldable pub isa_of : Desc → Parts
+isa_of d = isa_by (setting_of d.items) (known_of d.items) d
