@@ -30,8 +30,11 @@ from_role = rules.AbiRole ∷ from_stage
 abbrev from_index : List Rule
 from_index = rules.IndexNotField ∷ from_role
 
+abbrev from_access : List Rule
+from_access = rules.TwoAccesses ∷ from_index
+
 abbrev from_value : List Rule
-from_value = rules.FieldValue ∷ from_index
+from_value = rules.FieldValue ∷ from_access
 
 abbrev from_cover : List Rule
 from_cover = rules.FieldCover ∷ from_value
@@ -85,35 +88,42 @@ module _ (d : Desc) where
         behind_cover = behind_range ∙ past rules.FieldCover from_value cover_kept
 
         pub value_told : (f : DescFault) → TellsOf d rules.FieldValue f → Tells (breach_asked d) f
-        value_told f h = asked rules.FieldValue from_index f h behind_cover
+        value_told f h = asked rules.FieldValue from_access f h behind_cover
 
         module _ (value_kept : IsKept d rules.FieldValue) where
-          behind_value : breach_asked d ≡ first_breach (places_of d) from_index
-          behind_value = behind_cover ∙ past rules.FieldValue from_index value_kept
+          behind_value : breach_asked d ≡ first_breach (places_of d) from_access
+          behind_value = behind_cover ∙ past rules.FieldValue from_access value_kept
 
-          pub index_told : (f : DescFault) → TellsOf d rules.IndexNotField f → Tells (breach_asked d) f
-          index_told f h = asked rules.IndexNotField from_role f h behind_value
+          pub access_told : (f : DescFault) → TellsOf d rules.TwoAccesses f → Tells (breach_asked d) f
+          access_told f h = asked rules.TwoAccesses from_index f h behind_value
 
-          module _ (index_kept : IsKept d rules.IndexNotField) where
-            behind_index : breach_asked d ≡ first_breach (places_of d) from_role
-            behind_index = behind_value ∙ past rules.IndexNotField from_role index_kept
+          module _ (access_kept : IsKept d rules.TwoAccesses) where
+            behind_access : breach_asked d ≡ first_breach (places_of d) from_index
+            behind_access = behind_value ∙ past rules.TwoAccesses from_index access_kept
 
-            pub role_told : (f : DescFault) → TellsOf d rules.AbiRole f → Tells (breach_asked d) f
-            role_told f h = asked rules.AbiRole from_stage f h behind_index
+            pub index_told : (f : DescFault) → TellsOf d rules.IndexNotField f → Tells (breach_asked d) f
+            index_told f h = asked rules.IndexNotField from_role f h behind_access
 
-            module _ (role_kept : IsKept d rules.AbiRole) where
-              behind_role : breach_asked d ≡ first_breach (places_of d) from_stage
-              behind_role = behind_index ∙ past rules.AbiRole from_stage role_kept
+            module _ (index_kept : IsKept d rules.IndexNotField) where
+              behind_index : breach_asked d ≡ first_breach (places_of d) from_role
+              behind_index = behind_access ∙ past rules.IndexNotField from_role index_kept
 
-              pub stage_told : (f : DescFault) → TellsOf d rules.StageOrder f → Tells (breach_asked d) f
-              stage_told f h = asked rules.StageOrder from_limit f h behind_role
+              pub role_told : (f : DescFault) → TellsOf d rules.AbiRole f → Tells (breach_asked d) f
+              role_told f h = asked rules.AbiRole from_stage f h behind_index
 
-              module _ (stage_kept : IsKept d rules.StageOrder) where
-                behind_stage : breach_asked d ≡ first_breach (places_of d) from_limit
-                behind_stage = behind_role ∙ past rules.StageOrder from_limit stage_kept
+              module _ (role_kept : IsKept d rules.AbiRole) where
+                behind_role : breach_asked d ≡ first_breach (places_of d) from_stage
+                behind_role = behind_index ∙ past rules.AbiRole from_stage role_kept
 
-                pub limit_told : (f : DescFault) → TellsOf d rules.Limit f → Tells (breach_asked d) f
-                limit_told f h = asked rules.Limit [] f h behind_stage
+                pub stage_told : (f : DescFault) → TellsOf d rules.StageOrder f → Tells (breach_asked d) f
+                stage_told f h = asked rules.StageOrder from_limit f h behind_role
 
-                pub all_kept : IsKept d rules.Limit → breach_asked d ≡ None
-                all_kept h = behind_stage ∙ past rules.Limit [] h
+                module _ (stage_kept : IsKept d rules.StageOrder) where
+                  behind_stage : breach_asked d ≡ first_breach (places_of d) from_limit
+                  behind_stage = behind_role ∙ past rules.StageOrder from_limit stage_kept
+
+                  pub limit_told : (f : DescFault) → TellsOf d rules.Limit f → Tells (breach_asked d) f
+                  limit_told f h = asked rules.Limit [] f h behind_stage
+
+                  pub all_kept : IsKept d rules.Limit → breach_asked d ≡ None
+                  all_kept h = behind_stage ∙ past rules.Limit [] h

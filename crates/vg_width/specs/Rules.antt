@@ -40,8 +40,8 @@ breach_in d = first_breach (places_of d) check_order
 -- those of these rules that are asked so far, in their order
 abbrev pub asked_order : List Rule
 asked_order =
-    rules.Width ∷ rules.Range ∷ rules.FieldCover ∷ rules.FieldValue ∷ rules.IndexNotField ∷ rules.AbiRole ∷ rules.StageOrder
-    ∷ rules.Limit ∷ []
+    rules.Width ∷ rules.Range ∷ rules.FieldCover ∷ rules.FieldValue ∷ rules.TwoAccesses ∷ rules.IndexNotField ∷ rules.AbiRole
+    ∷ rules.StageOrder ∷ rules.Limit ∷ []
 
 -- the first of those that is broken, at its first place
 unfoldable pub breach_asked : Desc → Option Breach

@@ -10,6 +10,7 @@ ghost use Rattle.vg_width.specs.Asking.{IsKept, first_place};
 ghost use Rattle.vg_width.specs.Rules.{breach_asked};
 
 use std::alloc::{AllocError, Global};
+use vg_access::first_two_accesses;
 use vg_ast::Desc;
 use vg_declare::{first_abi_break, first_beyond, first_uncovered, first_unfit};
 use vg_inline::{Context, Plain, counts, make_bodies};
@@ -76,6 +77,9 @@ fn asked(alloc: Global, table: &Table, setting: &Setting, plain: &Plain) -> Resu
         return Err(DescFault::FieldValue { at });
     }
     let bodies = make_bodies(alloc, table, plain)?;
+    if let Some(at) = first_two_accesses(alloc, setting, plain, &bodies)? {
+        return Err(DescFault::TwoAccesses { at });
+    }
     if let Some(at) = first_index_not_field(alloc, setting, plain, &bodies)? {
         return Err(DescFault::IndexNotField { at });
     }
@@ -110,8 +114,8 @@ fn in_table(alloc: Global, table: &Table, plain: &Plain) -> Result<(), DescFault
     asked(alloc, table, &setting, plain)
 }
 
-/// Asks the rules of types, ranges, formats, encodings, indices, the binary interface and stages, and the limits, in their
-/// order, of a description that keeps the rules of names, constants and the number of nodes. The first that is broken is
+/// Asks the rules of types, ranges, formats, encodings, two accesses, indices, the binary interface and stages, and the
+/// limits, in their order, of a description that keeps the rules of names, constants and the number of nodes. The first that is broken is
 /// told at its first place.
 pub fn check(alloc: Global, plain: &Plain) -> Result<(), DescFault>
     requires folded { IsFolded plain.now.description plain.now }
