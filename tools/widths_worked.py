@@ -163,6 +163,20 @@ ROWS = [
     (T.replace("[31..25]", "[31..26]").replace("op = 0x13", "op = 0x80"), "8 FieldCover at 5:10"),
     (addi("{ X(rd) := MEM<1>(PC) as Bits<32> X(rd) := MEM<2>(PC) as Bits<32> }"), "11 TwoWrites at 6:60"),
     (value("X(rs1 + rs2 as Bits<32>)").replace("op = 0x13", "op = 0x80"), "6 Width at 6:37"),
+    (addi("{ X(rd) := PC X(rd) := PC }").replace("op = 0x13", "op = 0x80"), "9 FieldValue at 7:37"),
+    (value("MEM<4>(PC) + MEM<4>(X(rs1 + 1))"), "12 TwoAccesses at 6:48"),
+    (value("X(rs1 + 1) + MEM<4>(PC) + MEM<4>(X(rs1))"), "12 TwoAccesses at 6:61"),
+    (addi("{ X(rd) := MEM<4>(PC) + MEM<4>(X(rs1)) X(rd) := PC }"), "11 TwoWrites at 6:65"),
+    # more of behaviours
+    (addi("{ PC := X(rs1) PC := X(rs1) }"), "11 TwoWrites at 6:41"),
+    (addi("{ X(rd) := PC PC := X(rs1) MEM<4>(PC) := PC }"), "accepted"),
+    (addi("{ MEM<4>(PC) := PC MEM<4>(PC) := PC }"), "11 TwoWrites at 6:45"),
+    (addi("if rd = 1 then { X(rd) := PC PC := PC } else { PC := X(rs1) X(rd) := PC PC := PC }"), "11 TwoWrites at 6:98"),
+    (addi("if rd = 1 then X(rd) := PC else if rs1 = 1 then X(rd) := PC else X(rs2) := PC"), "11 TwoWrites at 6:91"),
+    (addi("{ if rd = 1 then PC := PC else X(rd) := PC X(rd) := PC }"), "11 TwoWrites at 6:69"),
+    (addi("if rd = 1 then MEM<4>(let z = PC in z) := PC else MEM<4>(PC) := X(rs1)"), "accepted"),
+    (addi("if rd = 1 then X(rd as Bits<5>) := PC else X(rd) := PC"), "11 TwoWrites at 6:69"),
+    (addi("if MEM<4>(PC) = 1 then { } else if MEM<4>(X(rs1)) = 1 then { }"), "12 TwoAccesses at 6:61"),
 ]
 
 

@@ -1,1 +1,3 @@
 pub mod Unlike
+pub mod Given
+pub mod Follows

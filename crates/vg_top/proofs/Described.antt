@@ -15,7 +15,7 @@ use Rattle.vg_inline.specs.declared.plain.Plain.{Plain}
 use Rattle.vg_inline.specs.InPlace.{known_of}
 use Rattle.vg_inline.specs.Rules.{IsFolded, breach_of}
 use Rattle.vg_rule.specs.Breach.{or_later}
-use Rattle.vg_width.specs.Rules.{KeepsRules, breach_asked, first_broken}
+use Rattle.vg_width.specs.Rules.{KeepsRules, breach_in, first_broken}
 use Rattle.vg_isa.specs.declared.isa.Parts.{Parts}
 use Rattle.vg_isa.specs.Accepted.{is_isa}
 use Rattle.vg_form.specs.declared.fault.FormFault.{FormFault}
@@ -52,12 +52,12 @@ token_faulty bytes (token_faults.Wide at) (inr h) = inl (refl, inl (token_faults
 -- a rule that is asked first and is broken is the first that is broken
 pub broken_before : (tree : Desc) (b : Breach) → breach_of tree ≡ Some b → first_broken tree ≡ Some b
 unfolding first_broken
-broken_before tree b broken = ap (λ (x : Option Breach). or_later x (breach_asked tree)) broken
+broken_before tree b broken = ap (λ (x : Option Breach). or_later x (breach_in tree)) broken
 
 -- behind those that are kept the first that is broken is that of the others
-pub broken_behind : (tree : Desc) → breach_of tree ≡ None → first_broken tree ≡ breach_asked tree
+pub broken_behind : (tree : Desc) → breach_of tree ≡ None → first_broken tree ≡ breach_in tree
 unfolding first_broken
-broken_behind tree kept = ap (λ (x : Option Breach). or_later x (breach_asked tree)) kept
+broken_behind tree kept = ap (λ (x : Option Breach). or_later x (breach_in tree)) kept
 
 pub told_fault : (bytes : List ℕ) (tree : Desc) → HasTree bytes tree → (told : Option Breach) → IfSome told (λ b. first_broken tree ≡ Some b)
     → IsFaultOf bytes (option_map_or (λ (breach : Breach). why.Refused (reasons.Broken breach.rule breach.at)) told why.OutOfMemory)
@@ -72,14 +72,14 @@ rule_faulty bytes tree has f tells = told_fault bytes tree has (told_by f) (by (
     by (Some breach) h = broken_before tree breach h
 
 -- what is asked of a folded description
-pub check_faulty : (bytes : List ℕ) (tree : Desc) → HasTree bytes tree → (plain : Plain) → IsFolded tree plain → (f : DescFault) → Tells (breach_asked plain.description) f → IsFaultOf bytes (rule_fault_of f)
+pub check_faulty : (bytes : List ℕ) (tree : Desc) → HasTree bytes tree → (plain : Plain) → IsFolded tree plain → (f : DescFault) → Tells (breach_in plain.description) f → IsFaultOf bytes (rule_fault_of f)
 check_faulty bytes tree has plain folded f tells = told_fault bytes tree has (told_by f) (by (told_by f) tells)
   where
-    by : (told : Option Breach) → IfSome told (λ b. breach_asked plain.description ≡ Some b) → IfSome told (λ b. first_broken tree ≡ Some b)
+    by : (told : Option Breach) → IfSome told (λ b. breach_in plain.description ≡ Some b) → IfSome told (λ b. first_broken tree ≡ Some b)
     by None h = h
-    by (Some breach) h = broken_behind tree folded.accepted ∙ ap breach_asked (sym folded.description) ∙ h
+    by (Some breach) h = broken_behind tree folded.accepted ∙ ap breach_in (sym folded.description) ∙ h
 
-pub keeps_rules : (tree : Desc) → breach_of tree ≡ None → breach_asked tree ≡ None → KeepsRules tree
+pub keeps_rules : (tree : Desc) → breach_of tree ≡ None → breach_in tree ≡ None → KeepsRules tree
 keeps_rules tree kept behind = broken_behind tree kept ∙ behind
 
 -- what a description is folded to is that of its own tree
@@ -95,9 +95,9 @@ module _ (tree : Desc) where
   told_unlike f (inl none) = inl none
   told_unlike f (inr (at, same, so)) = inr (at, same, record { unlike_at = so })
 
-module _ (bytes : List ℕ) (tree : Desc) (has : HasTree bytes tree) (plain : Plain) (folded : IsFolded tree plain) (kept : breach_asked plain.description ≡ None) where
+module _ (bytes : List ℕ) (tree : Desc) (has : HasTree bytes tree) (plain : Plain) (folded : IsFolded tree plain) (kept : breach_in plain.description ≡ None) where
   accepted : KeepsRules tree
-  accepted = keeps_rules tree folded.accepted (ap breach_asked (sym folded.description) ∙ kept)
+  accepted = keeps_rules tree folded.accepted (ap breach_in (sym folded.description) ∙ kept)
 
   pub described : (d : Parts) → IsBuilt plain.description d → IsTrue (is_isa d) → IsDescription bytes d
   described d built accepts = record {

@@ -4,7 +4,7 @@ ghost use Rattle.vg_ast.specs.declared.desc.Desc.{Desc as TheTree};
 ghost use Rattle.vg_ast.specs.Description.{Reads};
 ghost use Rattle.vg_iss.specs.Kept.{is_memory_free};
 ghost use Rattle.vg_inline.specs.Rules.{IsFolded};
-ghost use Rattle.vg_width.specs.Rules.{breach_asked};
+ghost use Rattle.vg_width.specs.Rules.{breach_in};
 ghost use Rattle.vg_top.specs.Description.{HasTree, IsBuilt, IsUnlike, IsDescription, IsFaultOf};
 ghost use Rattle.vg_top.specs.Reason.{lacking};
 ghost use Rattle.vg_top.specs.Faulting.{IsBuildFault, IsFaultFor};
@@ -67,7 +67,7 @@ fn folded(alloc: Global, tree: Desc) -> Result<Plain, DescriptionFault>
 /// A folded description keeps the rules of types, formats, behaviours, the binary interface, stages and limits.
 fn checked(alloc: Global, plain: &Plain) -> Result<(), DescriptionFault>
     requires folded { IsFolded plain.now.description plain.now }
-    ensures kept { IfOk result (λ _. breach_asked plain.now.description ≡ None) }
+    ensures kept { IfOk result (λ _. breach_in plain.now.description ≡ None) }
     ensures fault { IfErr result (λ fault. (bytes : List ℕ) (tree : TheTree) → HasTree bytes tree → IsFolded tree plain.now → IsFaultOf bytes fault) }
 {
     Ok(check(alloc, plain)?)

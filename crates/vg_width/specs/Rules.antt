@@ -37,20 +37,10 @@ places_of d _ = []
 unfoldable pub breach_in : Desc → Option Breach
 breach_in d = first_breach (places_of d) check_order
 
--- those of these rules that are asked so far, in their order
-abbrev pub asked_order : List Rule
-asked_order =
-    rules.Width ∷ rules.Range ∷ rules.FieldCover ∷ rules.FieldValue ∷ rules.IndexNotField ∷ rules.AbiRole ∷ rules.StageOrder
-    ∷ rules.Limit ∷ []
-
--- the first of those that is broken, at its first place
-unfoldable pub breach_asked : Desc → Option Breach
-breach_asked d = first_breach (places_of d) asked_order
-
 -- The rule that a description breaks first, at its first place: of those of names, constants and the number of nodes, and
--- of those asked behind them.
+-- of these behind them.
 unfoldable pub first_broken : Desc → Option Breach
-first_broken d = or_later (breach_of d) (breach_asked d)
+first_broken d = or_later (breach_of d) (breach_in d)
 
 -- a description keeps all of them
 abbrev pub KeepsRules : Desc → Type 0

@@ -7,9 +7,10 @@ ghost use Rattle.vg_rule.specs.Fault.{Tells};
 ghost use Rattle.vg_type.specs.Item.{setting_of};
 ghost use Rattle.vg_type.specs.Setting.{setting_in};
 ghost use Rattle.vg_width.specs.Asking.{IsKept, first_place};
-ghost use Rattle.vg_width.specs.Rules.{breach_asked};
+ghost use Rattle.vg_width.specs.Rules.{breach_in};
 
 use std::alloc::{AllocError, Global};
+use vg_access::{first_two_accesses, first_two_writes};
 use vg_ast::Desc;
 use vg_declare::{first_abi_break, first_beyond, first_uncovered, first_unfit};
 use vg_inline::{Context, Plain, counts, make_bodies};
@@ -58,8 +59,8 @@ fn asked(alloc: Global, table: &Table, setting: &Setting, plain: &Plain) -> Resu
     requires table { table.now.items.now ≡ plain.now.description.items }
     requires items { setting.now.context.now.table.now.items.now ≡ plain.now.description.items }
     requires setting { setting_in setting.now.context.now ≡ setting_of plain.now.description.items }
-    ensures kept { IfOk result (λ _. breach_asked plain.now.description ≡ None) }
-    ensures fault { IfErr result (λ f. Tells (breach_asked plain.now.description) f) }
+    ensures kept { IfOk result (λ _. breach_in plain.now.description ≡ None) }
+    ensures fault { IfErr result (λ f. Tells (breach_in plain.now.description) f) }
 {
     let d = &plain.description;
     let mistyped = first_faults(d, setting);
@@ -76,6 +77,12 @@ fn asked(alloc: Global, table: &Table, setting: &Setting, plain: &Plain) -> Resu
         return Err(DescFault::FieldValue { at });
     }
     let bodies = make_bodies(alloc, table, plain)?;
+    if let Some(at) = first_two_writes(alloc, setting, plain, &bodies)? {
+        return Err(DescFault::TwoWrites { at });
+    }
+    if let Some(at) = first_two_accesses(alloc, setting, plain, &bodies)? {
+        return Err(DescFault::TwoAccesses { at });
+    }
     if let Some(at) = first_index_not_field(alloc, setting, plain, &bodies)? {
         return Err(DescFault::IndexNotField { at });
     }
@@ -95,8 +102,8 @@ fn asked(alloc: Global, table: &Table, setting: &Setting, plain: &Plain) -> Resu
 fn in_table(alloc: Global, table: &Table, plain: &Plain) -> Result<(), DescFault>
     requires folded { IsFolded plain.now.description plain.now }
     requires table { table.now.items.now ≡ plain.now.description.items }
-    ensures kept { IfOk result (λ _. breach_asked plain.now.description ≡ None) }
-    ensures fault { IfErr result (λ f. Tells (breach_asked plain.now.description) f) }
+    ensures kept { IfOk result (λ _. breach_in plain.now.description ≡ None) }
+    ensures fault { IfErr result (λ f. Tells (breach_in plain.now.description) f) }
 {
     let context = Context {
         table,
@@ -110,13 +117,13 @@ fn in_table(alloc: Global, table: &Table, plain: &Plain) -> Result<(), DescFault
     asked(alloc, table, &setting, plain)
 }
 
-/// Asks the rules of types, ranges, formats, encodings, indices, the binary interface and stages, and the limits, in their
-/// order, of a description that keeps the rules of names, constants and the number of nodes. The first that is broken is
-/// told at its first place.
+/// Asks the rules of types, ranges, formats, encodings, two writes, two accesses, indices, the binary interface and stages,
+/// and the limits, in their order, of a description that keeps the rules of names, constants and the number of nodes. The
+/// first that is broken is told at its first place.
 pub fn check(alloc: Global, plain: &Plain) -> Result<(), DescFault>
     requires folded { IsFolded plain.now.description plain.now }
-    ensures kept { IfOk result (λ _. breach_asked plain.now.description ≡ None) }
-    ensures fault { IfErr result (λ f. Tells (breach_asked plain.now.description) f) }
+    ensures kept { IfOk result (λ _. breach_in plain.now.description ≡ None) }
+    ensures fault { IfErr result (λ f. Tells (breach_in plain.now.description) f) }
 {
     let table = Table::new(alloc, plain.description.items.as_slice())?;
     in_table(alloc, &table, plain)

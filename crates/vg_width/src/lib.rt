@@ -6,12 +6,12 @@
 //! in the order of the text), the order in which the rules are asked, and the processor that it stands for where it
 //! keeps them all (`isa_of`, of vg_processor).
 //!
-//! The theorem: `check` answers nothing exactly where the rules that are asked (`asked_order`) are kept, and else
-//! exactly the first that is broken. A law says that a description keeps all rules or breaks exactly one of them first
-//! ([`one_answer`]). Not asked yet are the rules of two writes and of two accesses.
+//! The theorem: `check` answers nothing exactly where these rules are kept, and else exactly the first that is broken. A
+//! law says that a description keeps all rules or breaks exactly one of them first ([`one_answer`]).
 //!
 //! Each rule has a function of its own in a crate below, that answers exactly its first place: types and ranges in vg_type,
-//! formats, encodings, the binary interface and limits in vg_declare, indices and stages in vg_stage.
+//! formats, encodings, the binary interface and limits in vg_declare, indices and stages in vg_stage, two writes and two
+//! accesses in vg_access.
 //!
 //! With `format F : Bits<16> = { a [15..8], b [8..0] }` the rule `FieldCover` is broken at the name `b`, whose range
 //! names bit 8 again.
