@@ -18,7 +18,9 @@
 //! free.
 //!
 //! `specs/Time.antt` defines in which cycle each executed instruction does each stage (`entry_cycle`), where the memory
-//! never says no. Nothing is proved of it yet.
+//! never says no. When a location can be had is the greatest of its terms ([`location_terms`]). Each stage takes a cycle at
+//! least, no two instructions are in one stage in one cycle, and none is fetched before a wrong guess is decided
+//! ([`cycles_keep_order`]). That a pipeline keeps this time isn't proved yet.
 //!
 //! **Limits.** A part without a place of its own in the text counts as standing at its start.
 //!
@@ -38,7 +40,7 @@ mod plan;
 mod stage_table;
 mod timing;
 
-pub use laws::values_agree;
+pub use laws::{cycles_keep_order, location_terms, values_agree};
 pub use place_fault::PlaceFault;
 pub use placing::stages;
 pub use plan::{InstrPlan, NextPlan, Plan, WritePlan};
