@@ -1,9 +1,11 @@
-ghost use Rattle.std.specs.Prelude.{◌≡◌, ◌<◌, ℕ, List};
+ghost use Rattle.std.specs.Prelude.{◌≡◌, ◌<◌, ◌↔◌, ℕ, List, IsTrue, Some};
 ghost use Rattle.vg_isa.specs.declared.isa.Parts.{Parts};
 ghost use Rattle.vg_isa.specs.declared.expr.Expr.{Expr};
 ghost use Rattle.vg_isa.specs.Value.{Reads, value_of};
 ghost use Rattle.vg_place.specs.declared.stage_table.Stages.{Stages};
-ghost use Rattle.vg_place.specs.Stage.{stage_of};
+ghost use Rattle.vg_isa.specs.Accepted.{is_isa};
+ghost use Rattle.vg_place.specs.Stage.{stage_of, stages_in};
+ghost use Rattle.vg_place.specs.Unplaced.{IsInOrder, IsInTime};
 ghost use Rattle.vg_place.specs.Reading.{AgreeOn};
 ghost use Rattle.vg_isa.specs.declared.abi.Micro.{Micro};
 ghost use Rattle.vg_place.specs.Terms.{IsGreatest, KeepsOrder};
@@ -25,4 +27,11 @@ pub fn location_terms()
 /// and nothing is fetched in a cycle in which a wrong guess is decided, or before.
 pub fn cycles_keep_order()
     ensures { (d : Parts) (micro : Micro) (s : Stages) → KeepsOrder d micro s }
+{}
+
+/// A law: an accepted description keeps the order of stages, so its stages are in order, with all parts in time, exactly
+/// where no part of an instruction comes too late.
+pub fn accepted_is_in_order()
+    ensures { (d : Parts) (micro : Micro) → IsTrue (is_isa d) → d.micro ≡ Some micro
+        → (IsInOrder d micro ↔ IsInTime (stages_in d micro) d.instrs) }
 {}
