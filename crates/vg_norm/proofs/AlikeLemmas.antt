@@ -1,6 +1,6 @@
 -- What trees that are alike have in common: widths and values.
-use Rattle.std.proofs.Common.{◌≡◌, ℕ, zero, suc, ◌+◌, ◌-◌, ◌*◌, ◌/◌, ◌%◌, ◌^◌, ◌<◌, ◌≤◌, ◌⊎◌, inl, inr, Bool, true, false, IsTrue, nat_eq, refl, sym, ap, ◌∙◌, subst, arith}
-use Rattle.std.specs.Prelude.{bit_and, bit_or, bit_xor, pos, ◌==◌}
+use Rattle.std.proofs.Common.{◌≡◌, ℕ, suc, ◌+◌, ◌-◌, ◌%◌, ◌^◌, ◌<◌, inl, inr, true, IsTrue, nat_eq, refl, sym, ap, ◌∙◌, subst, arith}
+use Rattle.std.specs.Prelude.{◌==◌}
 use Rattle.std.proofs.Math.Nat.{add_comm, mul_comm, div-one, mod-eq_of_lt}
 use Rattle.std.proofs.lemmas.Nat.{and_comm, or_comm, xor_comm}
 use Rattle.std.proofs.lemmas.Bool.{cases_lt}
@@ -9,7 +9,7 @@ use Rattle.vg_bits.specs.BitValue.{BitValue, IsBitValue, bit_value, signed_value
 use Rattle.vg_bits.specs.BitValue as bits
 use Rattle.vg_bits.proofs.SignedValue.{signed_value-low, signed_value-high, wrapped-pos, wrapped-negsuc}
 use Rattle.vg_isa.specs.declared.isa.Parts.{Parts}
-use Rattle.vg_isa.specs.declared.expr.Expr.{Expr, fold-Expr, fold-roll-Expr, map-Expr, roll-Expr}
+use Rattle.vg_isa.specs.declared.expr.Expr.{Expr, fold-roll-Expr, map-Expr, roll-Expr}
 use Rattle.vg_isa.specs.declared.expr.Expr.TheOpen.{Expr-F}
 use Rattle.vg_isa.specs.declared.operator.BinOp.{BinOp}
 use Rattle.vg_isa.specs.declared.operator.BinOp.TheVariants as binop

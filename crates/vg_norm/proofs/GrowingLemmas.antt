@@ -1,5 +1,5 @@
 -- A graph in normal form that grows.
-use Rattle.std.proofs.Common.{◌≡◌, ℕ, zero, suc, ◌+◌, ◌-◌, ◌<◌, ◌≤◌, ◌⊎◌, inl, inr, Bool, true, false, IsTrue, ◌&&◌, nat_eq, nat_le, nat_lt, List, [], ◌∷◌, ◌++◌, length, map, Some, None, refl, sym, ap, ◌∙◌, subst, arith}
+use Rattle.std.proofs.Common.{◌≡◌, ℕ, zero, suc, ◌+◌, ◌<◌, ◌≤◌, ◌⊎◌, inl, inr, Bool, true, IsTrue, ◌&&◌, nat_le, List, [], ◌∷◌, ◌++◌, length, Some, None, refl, sym, ap, ◌∙◌, subst, arith}
 use Rattle.std.specs.Prelude.{slice_get, slice_index_or}
 use Rattle.std.proofs.lemmas.List.{length-append}
 use Rattle.std.proofs.lemmas.Option.{slice_get_within, same_Some}
@@ -11,23 +11,19 @@ use Rattle.vg_isa.specs.declared.operator.BinOp.{BinOp}
 use Rattle.vg_isa.specs.declared.operator.CastOp.{CastOp}
 use Rattle.vg_isa.specs.declared.operator.CastOp.TheVariants.{Cut}
 use Rattle.vg_isa.specs.Typing.{Typing, is_typed, typing_of, typing_step, width_of}
-use Rattle.vg_isa.proofs.Tests.{both, true-nat_le, true-nat_lt}
-use Rattle.vg_graph.specs.declared.operands.Operands.{Operands}
-use Rattle.vg_graph.specs.declared.operands.Operands.TheVariants.{Zero, One, Two, Three}
-use Rattle.vg_graph.specs.declared.operator.Op.{Op}
-use Rattle.vg_graph.specs.declared.operator.Op.TheVariants as op
+use Rattle.vg_isa.proofs.Tests.{both, true-nat_lt}
 use Rattle.vg_graph.specs.declared.node.Node.{Node}
 use Rattle.vg_graph.specs.Node.{AllBelow, IsIn, args_of, node_of, operands_in}
-use Rattle.vg_graph.specs.Tree.{HaveTrees, IsTree, over}
-use Rattle.vg_graph.specs.Graph.{GraphValue, IsAdded, IsFit, IsGraph, IsShared}
+use Rattle.vg_graph.specs.Tree.{HaveTrees, IsTree}
+use Rattle.vg_graph.specs.Graph.{GraphValue, IsAdded, IsFit, IsGraph}
 use Rattle.vg_graph.specs.Building.{Extends}
 use Rattle.vg_graph.specs.Alike.{Alike, commutes, same, chained, swapped, cast, slice}
-use Rattle.vg_graph.proofs.BuildLemmas.{added_at, added_extends, operand_typed}
-use Rattle.vg_graph.proofs.Gets.{gets-append_left, gets-pushed}
+use Rattle.vg_graph.proofs.BuildLemmas.{added_at, added_extends}
+use Rattle.vg_graph.proofs.Gets.{gets-pushed}
 use Rattle.vg_graph.proofs.LevelLemmas.{args_of-node, fold_level, map_same, node_of-same}
-use Rattle.vg_graph.proofs.TreeLemmas.{IsForest, below_each, forest, level_of_tree, tree_stays, tree_unique, tree_within}
+use Rattle.vg_graph.proofs.TreeLemmas.{below_each, forest, level_of_tree, tree_stays, tree_unique, tree_within}
 use Rattle.vg_norm.specs.Width.{node_typing, typed_as}
-use Rattle.vg_norm.specs.Normal.{HasWidth, IsIdle, IsInOrder, IsNormal}
+use Rattle.vg_norm.specs.Normal.{IsIdle, IsNormal}
 use Rattle.vg_norm.specs.Growing.{AreWidths, HasNodeWidth, IsBareNode, IsOrderedNode, StandBelow, StandsFor}
 use Rattle.vg_norm.proofs.AlikeLemmas.{alike_typed, opened_typing}
 

@@ -5,3 +5,5 @@ pub mod OneNodeLemmas
 pub mod GrowingLemmas
 pub mod VisitLemmas
 pub mod RootLemmas
+pub mod Descriptions
+pub mod Tested

@@ -1,20 +1,18 @@
 -- The normal form of a tree: it is alike, and two trees are alike exactly where their normal forms are equal.
-use Rattle.std.proofs.Common.{◌≡◌, ℕ, zero, suc, ◌+◌, ◌-◌, ◌*◌, ◌^◌, ◌<◌, ◌≤◌, ◌⊎◌, inl, inr, Bool, true, false, ◌&&◌, IsTrue, nat_eq, nat_le, nat_lt, List, [], ◌∷◌, Some, None, refl, sym, ap, ◌∙◌, subst, arith, if◌then◌else◌}
-use Rattle.std.specs.Prelude.{slice_get}
-use Rattle.std.proofs.lemmas.Bool.{cases_Bool}
-use Rattle.vg_bits.specs.BitValue.{BitValue, bit_value}
+use Rattle.std.proofs.Common.{◌≡◌, ℕ, zero, suc, ◌+◌, ◌<◌, ◌≤◌, Bool, true, false, ◌&&◌, IsTrue, nat_eq, nat_le, List, [], ◌∷◌, Some, None, refl, sym, ap, ◌∙◌, subst, arith, if◌then◌else◌}
+use Rattle.vg_bits.specs.BitValue.{bit_value}
 use Rattle.std.proofs.lemmas.Bool.Decides.{nat_tests}
 use Rattle.vg_isa.specs.declared.isa.Parts.{Parts}
-use Rattle.vg_isa.specs.declared.expr.Expr.{Expr, fold-Expr, fold-roll-Expr, ind-Expr, map-Expr, roll-Expr}
+use Rattle.vg_isa.specs.declared.expr.Expr.{Expr, fold-roll-Expr, ind-Expr, map-Expr, roll-Expr}
 use Rattle.vg_isa.specs.declared.expr.Expr.TheOpen.{Expr-F}
 use Rattle.vg_isa.specs.declared.operator.BinOp.{BinOp}
 use Rattle.vg_isa.specs.declared.operator.CastOp.{CastOp}
 use Rattle.vg_isa.specs.declared.operator.CastOp.TheVariants.{Cut}
 use Rattle.vg_isa.specs.Accepted.{is_isa}
-use Rattle.vg_isa.specs.Declaration.{register_width, has_register}
-use Rattle.vg_isa.specs.Typing.{Typing, is_typed, typing_of, typing_step, width_of}
-use Rattle.vg_isa.specs.Value.{IsLawful, IsValue, Reads, value_of}
-use Rattle.vg_isa.proofs.Tests.{both, nat_eq-true, nat_lt-true, true-nat_eq, true-nat_lt}
+use Rattle.vg_isa.specs.Declaration.{register_width}
+use Rattle.vg_isa.specs.Typing.{Typing, is_typed, typing_step, width_of}
+use Rattle.vg_isa.specs.Value.{IsLawful, Reads}
+use Rattle.vg_isa.proofs.Tests.{both, nat_eq-true, true-nat_eq, true-nat_lt}
 use Rattle.vg_isa.proofs.Lawful.{value_is}
 use Rattle.std.proofs.lemmas.Nat.{pow_pos}
 use Rattle.vg_graph.specs.Node.{operands_in}

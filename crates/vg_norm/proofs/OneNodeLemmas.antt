@@ -1,5 +1,5 @@
 -- In a graph in normal form, nodes whose trees are alike are one.
-use Rattle.std.proofs.Common.{◌≡◌, ℕ, zero, suc, ◌<◌, ◌≤◌, inl, inr, Bool, true, false, IsTrue, nat_eq, List, [], ◌∷◌, map, Some, None, refl, sym, ap, ◌∙◌, subst, arith, if◌then◌else◌}
+use Rattle.std.proofs.Common.{◌≡◌, ℕ, zero, suc, ◌≤◌, inl, inr, Bool, true, false, IsTrue, nat_eq, List, [], ◌∷◌, map, Some, None, refl, sym, ap, ◌∙◌, subst, arith, if◌then◌else◌}
 use Rattle.std.specs.Prelude.{slice_get, ◌↔◌}
 use Rattle.std.proofs.lemmas.Bool.{cases_Bool}
 use Rattle.vg_isa.specs.declared.isa.Parts.{Parts}
@@ -14,16 +14,14 @@ use Rattle.vg_graph.specs.declared.operands.Operands.{Operands}
 use Rattle.vg_graph.specs.declared.operands.Operands.TheVariants.{Zero, One, Two, Three}
 use Rattle.vg_graph.specs.declared.operator.Op.{Op}
 use Rattle.vg_graph.specs.declared.operator.Op.TheVariants as op
-use Rattle.vg_graph.specs.declared.node.Node.{Node}
 use Rattle.vg_graph.specs.Node.{IsIn, node_of, operands_in}
 use Rattle.vg_graph.specs.Tree.{IsTree, over}
 use Rattle.vg_graph.specs.Graph.{GraphValue, IsGraph}
 use Rattle.vg_graph.specs.Building.{op_in}
 use Rattle.vg_graph.specs.Alike.{Alike, commutes, same}
-use Rattle.vg_graph.proofs.BuildLemmas.{operand_typed}
 use Rattle.vg_graph.proofs.LevelLemmas.{fold_level, operands_in-map}
 use Rattle.vg_graph.proofs.TreeLemmas.{level_of_tree, tree_unique, tree_within}
-use Rattle.vg_norm.specs.Normal.{HasWidth, IsIdle, IsInOrder, IsNormal}
+use Rattle.vg_norm.specs.Normal.{IsInOrder, IsNormal}
 use Rattle.vg_norm.specs.NormalTree.{binary_over, cast_over, is_first, normal_step, normal_tree}
 use Rattle.vg_norm.proofs.NormalLemmas.{normal_same, normal_width}
 

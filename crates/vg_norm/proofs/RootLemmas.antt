@@ -3,12 +3,11 @@ use Rattle.std.proofs.Common.{◌≡◌, ℕ, zero, suc, ◌<◌, IsTrue, List, 
 use Rattle.std.specs.Prelude.{slice_get, ◌↔◌}
 use Rattle.std.specs.Option.{option_map, option_and_then}
 use Rattle.std.proofs.lemmas.Option.{none-some, same_Some}
-use Rattle.vg_bits.specs.BitValue.{BitValue}
 use Rattle.vg_isa.specs.declared.isa.Parts.{Parts}
 use Rattle.vg_isa.specs.declared.expr.Expr.{Expr}
 use Rattle.vg_isa.specs.declared.expr.Expr.TheOpen.{Expr-F}
 use Rattle.vg_isa.specs.Accepted.{is_isa}
-use Rattle.vg_isa.specs.Value.{IsLawful, Reads, value_of}
+use Rattle.vg_isa.specs.Value.{value_of}
 use Rattle.vg_graph.specs.declared.root.Root.{Root}
 use Rattle.vg_graph.specs.declared.root.Root.TheVariants.{Guard, At, Value, NextGuard, NextValue}
 use Rattle.vg_graph.specs.declared.roots.Roots.{Roots}
@@ -19,7 +18,7 @@ use Rattle.vg_graph.specs.Graph.{GraphValue, IsGraph, root_of}
 use Rattle.vg_graph.specs.Building.{Extends}
 use Rattle.vg_graph.specs.Alike.{Alike, turned, chained}
 use Rattle.vg_norm.specs.Normal.{AreAlike, HasOneRoot, HasSameTrees, IsIdle, IsNormal, KeepsValues}
-use Rattle.vg_norm.specs.Images.{AreWriteImages, HasImage, HasImageAt, IsNextImage, IsNextWithin, IsPartWithin, IsWriteImage, IsWriteWithin}
+use Rattle.vg_norm.specs.Images.{AreWriteImages, HasImageAt, IsNextImage, IsNextWithin, IsPartWithin, IsWriteImage, IsWriteWithin}
 use Rattle.vg_norm.proofs.AlikeLemmas.{alike_value}
 use Rattle.vg_norm.proofs.OneNodeLemmas.{alike_one, typed_at}
 use Rattle.vg_norm.proofs.VisitLemmas.{image_extends}

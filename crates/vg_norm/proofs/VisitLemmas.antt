@@ -1,9 +1,8 @@
 -- The images of nodes in a graph in normal form.
-use Rattle.std.proofs.Common.{◌≡◌, ◌≢◌, ℕ, zero, suc, ◌+◌, ◌*◌, ◌<◌, ◌≤◌, ◌⊎◌, inl, inr, Bool, true, false, IsTrue, List, [], ◌∷◌, ◌++◌, length, map, replicate, set, get_or, Option, Some, None, refl, sym, ap, ◌∙◌, subst, arith, if◌then◌else◌}
-use Rattle.std.specs.Prelude.{slice_get, sum_by}
+use Rattle.std.proofs.Common.{◌≡◌, ℕ, zero, suc, ◌+◌, ◌*◌, ◌<◌, ◌⊎◌, inl, inr, Bool, true, false, IsTrue, List, [], ◌∷◌, ◌++◌, length, map, replicate, set, get_or, Option, Some, None, refl, sym, ap, ◌∙◌, subst, arith}
+use Rattle.std.specs.Prelude.{slice_get}
 use Rattle.std.proofs.lemmas.Bool.Decides.{eqb_tells}
 use Rattle.std.proofs.lemmas.List.{length-append, length-set}
-use Rattle.std.proofs.lemmas.List.Sums.{sum_by-cons}
 use Rattle.std.proofs.lemmas.Option.{none-some, slice_get-get_or, slice_get_within, same_Some}
 use Rattle.vg_isa.specs.declared.isa.Parts.{Parts}
 use Rattle.vg_isa.specs.declared.expr.Expr.{Expr, map-Expr, roll-Expr}
@@ -17,14 +16,14 @@ use Rattle.vg_graph.specs.Tree.{HaveTrees, IsOperand, IsTree}
 use Rattle.vg_graph.specs.Graph.{GraphValue, IsFit, IsGraph}
 use Rattle.vg_graph.specs.Building.{Extends}
 use Rattle.vg_graph.specs.Alike.{Alike, chained, same as alike_same, within as alike_within}
-use Rattle.vg_graph.proofs.Gets.{gets-set_other, gets-set_same, gets-pushed, In-append, In-append_left, In-append_right, In-one, nil-In, one-In}
+use Rattle.vg_graph.proofs.Gets.{gets-set_other, gets-set_same, In-append, In-append_left, In-append_right, In-one, nil-In, one-In}
 use Rattle.vg_graph.proofs.BehaviourLemmas.{Extends_itself}
 use Rattle.vg_graph.proofs.BuildLemmas.{Extends-trans}
 use Rattle.vg_graph.proofs.LevelLemmas.{args_of-node, map_map, node_of-same, operands_in-map}
 use Rattle.vg_graph.specs.Order.{IsPath, unmarked}
 use Rattle.vg_graph.proofs.OrderLemmas.{unmarked_less, was_on_top}
 use Rattle.vg_graph.proofs.PathLemmas.{path_new}
-use Rattle.vg_graph.proofs.TreeLemmas.{below_each, forest, level_of_tree, tree_stays, tree_unique, tree_within}
+use Rattle.vg_graph.proofs.TreeLemmas.{below_each, forest, level_of_tree, tree_stays, tree_within}
 use Rattle.vg_norm.specs.declared.growing.Growing.{Growing}
 use Rattle.vg_norm.specs.declared.visit.Visit.{Visit}
 use Rattle.vg_norm.specs.Growing.{IsGrowing, StandBelow, StandsFor}

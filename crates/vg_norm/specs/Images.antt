@@ -1,5 +1,5 @@
 -- The images of the nodes of a graph in one in normal form.
-use Rattle.std.specs.Prelude.{◌≡◌, ℕ, ◌<◌, ◌⊎◌, Bool, true, List, [], ◌∷◌, length, Option, Some, None, slice_get}
+use Rattle.std.specs.Prelude.{◌≡◌, ℕ, ◌<◌, ◌⊎◌, true, List, [], ◌∷◌, length, Option, Some, None, slice_get}
 use Rattle.vg_isa.specs.declared.expr.Expr.{Expr}
 use Rattle.vg_graph.specs.declared.node.Node.{Node}
 use Rattle.vg_graph.specs.declared.roots.WriteRoots.{WriteRoots}

@@ -7,7 +7,6 @@ use Rattle.vg_graph.specs.declared.operands.Operands.{Operands}
 use Rattle.vg_graph.specs.declared.operands.Operands.TheVariants.{Zero, One, Two, Three}
 use Rattle.vg_graph.specs.declared.operator.Op.{Op}
 use Rattle.vg_graph.specs.declared.operator.Op.TheVariants as op
-use Rattle.vg_graph.specs.declared.node.Node.{Node}
 
 -- a typed operand of this width
 abbrev pub typed_as : ℕ → Typing

@@ -31,3 +31,8 @@ mod width;
 
 pub use laws::{alike_trees, normal_graphs, normal_trees, order_of_operands};
 pub use normalising::normal;
+
+#[cfg(test)]
+mod described;
+#[cfg(test)]
+mod tests;

@@ -4,3 +4,5 @@ pub mod Order
 pub mod Members
 pub mod Placed
 pub mod Steps
+pub mod Contents
+pub mod Samples

@@ -14,12 +14,15 @@
 //! ([`description_goes_by_reason`]), and what a slot on the path knows of its instruction is right
 //! ([`description_has_parts`]).
 //!
-//! [`run_goes_on`]: in the run of an image, one instruction at a time (`run_from`), the program counter behind an
-//! instruction is the one that the record gives it.
+//! Of the run of an image, one instruction at a time (`run_from`): behind each instruction stand the program counter, the
+//! registers and the memory that the record gives it ([`run_is_of_description`]). So the pipeline stands for the run of
+//! the image, from its first state or any other, after every cycle ([`description_is_refined`]), and n instructions
+//! have retired after n times the number of stages cycles, and one more for each no of the memory
+//! ([`description_advances`]).
 //!
-//! **Limits.** That the run's registers and memory behind an instruction are those that the record gives it isn't
-//! proved yet, so the laws of `vg_cycle` that speak of a run (`pipeline_refines`, `pipeline_advances`) don't follow
-//! yet. The register that reads as 0 is read like any other; no write names it, so it is never waited for.
+//! [`laws_have_instances`] has what the laws ask for at a processor with a pipeline of five stages and of one.
+//!
+//! **Limits.** The register that reads as 0 is read like any other; no write names it, so it is never waited for.
 //!
 //! ```text
 //! stages F R E M W: read X in R, compute in E, write X in W
@@ -30,5 +33,6 @@
 mod laws;
 
 pub use laws::{
-    description_goes_by_reason, description_has_parts, description_is_placed, run_goes_on,
+    description_advances, description_goes_by_reason, description_has_parts, description_is_placed,
+    description_is_refined, laws_have_instances, run_is_of_description,
 };

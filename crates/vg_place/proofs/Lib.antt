@@ -2,3 +2,4 @@ pub mod Lateness
 pub mod Firsts
 pub mod Bounds
 pub mod Agreeing
+pub mod Timely

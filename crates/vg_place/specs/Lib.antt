@@ -3,3 +3,4 @@ pub mod Unplaced
 pub mod Planned
 pub mod Time
 pub mod Reading
+pub mod Terms

@@ -15,10 +15,13 @@
 //! **What is proved.** `stages` gives the plan of the definitions (`plan_of`), and only where the stages are in order and
 //! no part comes too late (`IsInOrder`). It tells a part exactly where one comes too late, and then the first one
 //! (`IsFirst`): by its place in the text, then by its instruction, then by the stage that needs it. Want of memory is
-//! free.
+//! free. The rule on the order of stages is one that each accepted description keeps, so it is in order exactly where no
+//! part comes too late ([`accepted_is_in_order`]).
 //!
 //! `specs/Time.antt` defines in which cycle each executed instruction does each stage (`entry_cycle`), where the memory
-//! never says no. Nothing is proved of it yet.
+//! never says no. When a location can be had is the greatest of its terms ([`location_terms`]). Each stage takes a cycle at
+//! least, no two instructions are in one stage in one cycle, and none is fetched before a wrong guess is decided
+//! ([`cycles_keep_order`]). That a pipeline keeps this time isn't proved yet.
 //!
 //! **Limits.** A part without a place of its own in the text counts as standing at its start.
 //!
@@ -38,7 +41,7 @@ mod plan;
 mod stage_table;
 mod timing;
 
-pub use laws::values_agree;
+pub use laws::{accepted_is_in_order, cycles_keep_order, location_terms, values_agree};
 pub use place_fault::PlaceFault;
 pub use placing::stages;
 pub use plan::{InstrPlan, NextPlan, Plan, WritePlan};

@@ -1,6 +1,4 @@
 use Rattle.std.proofs.Common.{sym}
-use Rattle.vg_isa.specs.declared.isa.Parts.{Parts}
-use Rattle.vg_graph.specs.Alike.{turned}
 use Rattle.vg_norm.specs.NormalTree.{normal_tree}
 use Rattle.vg_norm.proofs.NormalLemmas.{normal_alike, normal_same, same_normal}
 use Rattle.vg_norm.proofs.laws.normal_trees.Goals as goal

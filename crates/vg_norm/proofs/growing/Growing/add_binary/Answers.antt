@@ -1,4 +1,4 @@
-use Rattle.std.proofs.Common.{◌≡◌, Bool, true, IsTrue, sym, ◌∙◌}
+use Rattle.std.proofs.Common.{IsTrue, sym, ◌∙◌}
 use Rattle.vg_isa.proofs.Tests.{both}
 use Rattle.vg_graph.specs.Alike.{commutes}
 use Rattle.vg_norm.proofs.GrowingLemmas.{turned_fits, turned_stands}

@@ -1,4 +1,4 @@
-use Rattle.std.proofs.Common.{◌≡◌, ℕ, sym, ◌∙◌}
+use Rattle.std.proofs.Common.{◌≡◌, sym, ◌∙◌}
 use Rattle.std.specs.Prelude.{slice_index_or}
 use Rattle.vg_norm.proofs.GrowingLemmas.{cast_bare, idle_stands}
 use Rattle.vg_norm.proofs.growing.Growing.add_cast.Goals as goal

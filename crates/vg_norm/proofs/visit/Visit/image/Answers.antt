@@ -1,9 +1,9 @@
-use Rattle.std.proofs.Common.{◌≡◌, ℕ, ◌+◌, ◌*◌, ◌<◌, ◌⊎◌, inl, inr, List, [], ◌∷◌, ◌++◌, Option, Some, None, length, refl, sym, ap, ◌∙◌, subst, rules}
+use Rattle.std.proofs.Common.{◌≡◌, ℕ, ◌<◌, ◌⊎◌, inl, inr, List, [], ◌∷◌, ◌++◌, Option, Some, None, length, refl, sym, ap, ◌∙◌, subst, rules}
 use Rattle.std.proofs.lemmas.Option.{none-some}
 use Rattle.vg_graph.specs.Node.{IsIn}
 use Rattle.vg_graph.proofs.Gets.{nil-In}
 use Rattle.vg_norm.specs.Images.{AreNodes, IsAdvanced, IsDone}
-use Rattle.vg_graph.specs.Order.{IsPath, unmarked}
+use Rattle.vg_graph.specs.Order.{IsPath}
 use Rattle.vg_graph.proofs.PathLemmas.{path_before, path_on}
 use Rattle.vg_norm.proofs.VisitLemmas.{found_popped, found_pushed, image_read, less_left, less_stacked, more_entered, more_itself, more_trans, never_opened, nodes_popped, nodes_pushed, operand_below, read_image, under_popped, under_pushed, visit_entered, visit_of, walk_of}
 use Rattle.vg_norm.proofs.visit.Visit.image.Goals as goal

@@ -1,4 +1,4 @@
-use Rattle.std.proofs.Common.{ℕ, ◌+◌, ◌*◌, ◌⊎◌, length}
+use Rattle.std.proofs.Common.{◌+◌, ◌*◌, ◌⊎◌, length}
 use Rattle.vg_graph.specs.Node.{IsIn}
 use Rattle.vg_norm.specs.Images.{AreNodes, HasMoreImages, IsDone, IsUnderWay, IsWalk}
 use Rattle.vg_graph.specs.Order.{IsPath, unmarked}
