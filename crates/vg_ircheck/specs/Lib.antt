@@ -1,0 +1,17 @@
+pub mod Place
+pub mod Types
+pub mod Names
+pub mod Written
+pub mod ValueTypes
+pub mod OperandTyping
+pub mod InstructionTyping
+pub mod InitialTyping
+pub mod Steps
+pub mod Holding
+pub mod Typing
+pub mod Flow
+pub mod Uses
+pub mod Unset
+pub mod Phis
+pub mod Counts
+pub mod Check

@@ -1,0 +1,20 @@
+//! The check of a module of LLVM IR: why it isn't compiled.
+//!
+//! In goes a module, as `vg_ir` has it, and the name of the function in which the run is to begin; out comes that it is
+//! accepted, or the one thing that it is refused for. So far the crate has the definitions, in `specs/`, and laws on them:
+//! the types of operands, results, initialisers and calls and the names that are defined (`Typing`), values that may be read
+//! before they are set (`Unset`, over the paths of `Flow` and the uses of `Uses`), what phis list (`Phis`), and how much of
+//! everything there may be (`Counts`). `Check` puts them in their order.
+//!
+//! **What is proved.** No module is refused for two things, and none that is accepted is refused ([`one_refusal`]).
+//!
+//! **Limits.** Where things stand, and what depends on the width of an address, is for whoever places a module.
+//!
+//! ```text
+//! one_refusal()     // its clause: at most one fault is right
+//! ```
+#![tactic(auto)]
+
+mod laws;
+
+pub use laws::one_refusal;
