@@ -1,2 +1,4 @@
 mod Firsts
 mod Refusals
+pub mod TypeLemmas
+pub mod InitialLemmas
