@@ -1,4 +1,5 @@
 mod Firsts
+pub mod Places
 mod Refusals
 pub mod TypeLemmas
 pub mod InitialLemmas

@@ -6,17 +6,8 @@ use Rattle.vg_ircheck.specs.Place.{first_place}
 use Rattle.vg_ircheck.specs.Unset.{Read, reads_of, IsUnsetRead}
 use Rattle.vg_ircheck.specs.Phis.{place_of, subjects_of, IsBroken}
 use Rattle.vg_ircheck.specs.Check.{Refusal, Typing, Unset, Phi, NoEntry, Limit, IsAccepted, IsRefused, OneRefusal}
+use Rattle.vg_ircheck.proofs.Places.{no_place, place_is_one}
 use Rattle.vg_ircheck.proofs.Firsts.{first_is_one, none_is_first}
-
--- where there is no place there is no first one
-pub no_place : (places : List Spot) (at : Spot) → places ≡ [] → first_place places ≡ Some at → ⊥
-unfolding first_place
-no_place [] at e h = absurd (cc)
-no_place (s ∷ ss) at e h = absurd (cc)
-
--- two first places of a list are one
-pub place_is_one : (places : List Spot) (a b : Spot) → first_place places ≡ Some a → first_place places ≡ Some b → a ≡ b
-place_is_one places a b h k = cc
 
 module _ (m : Parts) (entry : List ℕ) where
   one : (a b : Refusal) → IsRefused m entry a → IsRefused m entry b → a ≡ b

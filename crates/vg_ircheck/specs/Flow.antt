@@ -1,6 +1,6 @@
 -- How control may go in a function: its blocks are counted from 0, which is the entry block, and an edge leads from each block
 -- to those that its end names.
-use Rattle.std.specs.Prelude.{◌≡◌, ℕ, suc, Bool, true, false, nat_eq, List, [], ◌∷◌, map, Option, Some, None, option_map, slice_get, if◌then◌else◌}
+use Rattle.std.specs.Prelude.{◌≡◌, ℕ, zero, suc, Bool, true, false, ◌&&◌, ◌||◌, nat_eq, List, [], ◌∷◌, ◌++◌, length, map, Option, Some, None, option_map, slice_get, if◌then◌else◌}
 use Rattle.std.specs.Option.{option_map_or}
 use Rattle.std.specs.List.{list_any}
 use Rattle.vg_ir.specs.declared.name.Name.{Name}
@@ -11,6 +11,7 @@ use Rattle.vg_ir.specs.declared.terminator.Case.{Case}
 use Rattle.vg_ir.specs.declared.block.Block.{Block}
 use Rattle.vg_ir.specs.declared.function.Function.{Function}
 use Rattle.vg_ir.specs.Lookup.{same_name}
+use Rattle.vg_ircheck.specs.Steps.{leads}
 
 -- ---- blocks by their numbers
 
@@ -59,3 +60,23 @@ any_block b = true
 -- a path of edges leads from the entry block to a block
 abbrev pub IsReached : Function → ℕ → Type 0
 IsReached f b = IsReachedThrough f any_block b
+
+-- ---- by a test
+
+-- the numbers below another
+abbrev pub numbers_below : ℕ → List ℕ
+numbers_below zero = []
+numbers_below (suc n) = numbers_below n ++ n ∷ []
+
+-- an edge leads from a block among some to another
+abbrev pub has_edge_from : Function → (ℕ → Bool) → ℕ → ℕ → Bool
+has_edge_from f among a b = among a && has_edge f a b
+
+-- a path leads from the entry block to a block, and each block on it before that one is among some
+abbrev pub is_reached_through : Function → (ℕ → Bool) → ℕ → Bool
+is_reached_through f among b =
+    nat_eq b 0 || leads (has_edge_from f among) (numbers_below (length f.blocks)) 0 b
+
+-- a path of edges leads from the entry block to a block
+abbrev pub is_reached : Function → ℕ → Bool
+is_reached f b = is_reached_through f any_block b

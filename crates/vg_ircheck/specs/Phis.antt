@@ -15,7 +15,7 @@ use Rattle.vg_ir.specs.declared.function.Function.{Function}
 use Rattle.vg_ir.specs.declared.module.Parts.{Parts}
 use Rattle.vg_ir.specs.Lookup.{same_name}
 use Rattle.vg_ir.specs.Shape.{integer_width, number_of}
-use Rattle.vg_ircheck.specs.Flow.{names_block, labels_of, has_edge, IsReached}
+use Rattle.vg_ircheck.specs.Flow.{names_block, labels_of, has_edge, IsReached, numbers_below}
 
 -- ---- equal operands
 
@@ -101,11 +101,6 @@ lists_twice t (i ∷ is) = differs_from t i is || lists_twice t is
 -- a phi lists the block of a number
 abbrev pub lists_block : Function → Phi → ℕ → Bool
 lists_block f p b = list_any (λ (i : Incoming). names_block f b i.block.name) p.incoming
-
--- a number below another
-abbrev pub numbers_below : ℕ → List ℕ
-numbers_below zero = []
-numbers_below (suc n) = numbers_below n ++ n ∷ []
 
 -- the blocks that a phi of a block lists, taken as a set, are those from which an edge leads to it
 abbrev pub lists_predecessors : Function → ℕ → Phi → Bool
