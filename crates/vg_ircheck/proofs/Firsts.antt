@@ -1,5 +1,5 @@
 -- The first of a list is one.
-use Rattle.std.proofs.Common.{◌≡◌, inl, inr, List, [], ◌∷◌, sym, ◌∙◌}
+use Rattle.std.proofs.Common.{◌≡◌, ◌⊎◌, inl, inr, List, [], ◌∷◌, refl, sym, ◌∙◌}
 use Rattle.vg_ircheck.specs.Check.{IsFirst, HasNone}
 
 module _ {A : Type 0} (P : A → Type 0) where
@@ -16,3 +16,13 @@ module _ {A : Type 0} (P : A → Type 0) where
   none_is_first [] a n h = h
   none_is_first (x ∷ xs) a n (inl h) = n.0 h.0
   none_is_first (x ∷ xs) a n (inr h) = none_is_first xs a n.1 h.1
+
+  -- where it can be told of each whether it has the property, there is a first one or none
+  pub decided : ((x : A) → P x ⊎ (P x → ⊥)) → (xs : List A) → HasNone P xs ⊎ ((x : A) × IsFirst P xs x)
+  decided tell [] = inl tt
+  decided tell (x ∷ xs) = by_cases (tell x) (decided tell xs)
+    where
+      by_cases : P x ⊎ (P x → ⊥) → HasNone P xs ⊎ ((y : A) × IsFirst P xs y) → HasNone P (x ∷ xs) ⊎ ((y : A) × IsFirst P (x ∷ xs) y)
+      by_cases (inl h) rest = inr (x, inl (h, refl))
+      by_cases (inr n) (inl none) = inl (n, none)
+      by_cases (inr n) (inr found) = inr (found.0, inr (n, found.1))

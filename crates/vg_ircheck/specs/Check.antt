@@ -76,7 +76,8 @@ IsRefused m entry NoEntry = IsTyped m × IsSet m × HasPhis m × (has_entry m en
 IsRefused m entry (Limit at) =
     IsTyped m × IsSet m × HasPhis m × (has_entry m entry ≡ true) × (first_place (count_places m) ≡ Some at)
 
--- A law: no module is refused for two things, and none that is accepted is refused.
+-- A law: each module is accepted, or is refused for one thing, and not both.
 pub record OneRefusal (m : Parts) (entry : List ℕ) : Type 0 where
   pub one : (a b : Refusal) → IsRefused m entry a → IsRefused m entry b → a ≡ b
   pub none : (a : Refusal) → IsRefused m entry a → IsAccepted m entry → ⊥
+  pub some : IsAccepted m entry ⊎ ((a : Refusal) × IsRefused m entry a)

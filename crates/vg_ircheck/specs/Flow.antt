@@ -80,3 +80,8 @@ is_reached_through f among b =
 -- a path of edges leads from the entry block to a block
 abbrev pub is_reached : Function → ℕ → Bool
 is_reached f b = is_reached_through f any_block b
+
+-- A law: the test tells a path exactly where there is one.
+pub record IsTold (f : Function) (among : ℕ → Bool) (b : ℕ) : Type 0 where
+  pub told : is_reached_through f among b ≡ true → IsReachedThrough f among b
+  pub tells : IsReachedThrough f among b → is_reached_through f among b ≡ true

@@ -6,7 +6,8 @@
 //! before they are set (`Unset`, over the paths of `Flow` and the uses of `Uses`), what phis list (`Phis`), and how much of
 //! everything there may be (`Counts`). `Check` puts them in their order.
 //!
-//! **What is proved.** No module is refused for two things, and none that is accepted is refused ([`one_refusal`]).
+//! **What is proved.** Each module is accepted, or is refused for one thing, and not both ([`one_refusal`]). Whether a path
+//! leads from the entry block to another is told by a test ([`paths_told`]).
 //!
 //! **Limits.** Where things stand, and what depends on the width of an address, is for whoever places a module.
 //!
@@ -17,4 +18,4 @@
 
 mod laws;
 
-pub use laws::one_refusal;
+pub use laws::{one_refusal, paths_told};
