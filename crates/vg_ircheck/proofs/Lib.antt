@@ -1,5 +1,7 @@
 mod Firsts
 pub mod Places
+pub mod PlaceLemmas
+pub mod CountLemmas
 mod Refusals
 pub mod TypeLemmas
 pub mod InitialLemmas

@@ -1,6 +1,6 @@
 -- How many functions, globals, instructions, parameters and cases a module may have, and how deep its types may nest; and what
 -- is too many.
-use Rattle.std.specs.Prelude.{ℕ, zero, suc, Bool, true, false, List, [], ◌∷◌, ◌++◌, map, flat_map, drop, Option, Some, None}
+use Rattle.std.specs.Prelude.{ℕ, zero, suc, Bool, true, false, List, [], ◌∷◌, ◌++◌, map, flat_map, slice_get, Option, Some, None}
 use Rattle.std.specs.List.{list_all}
 use Rattle.vg_ir.specs.declared.spot.Spot.{Spot}
 use Rattle.vg_ir.specs.declared.ty.Ty.{Ty}
@@ -59,6 +59,10 @@ module_words m = flat_map function_words m.functions
 
 -- ---- too many
 
+-- the first of a list that is too many, where at most so many may be in it
+abbrev pub first_beyond : ℕ → List Spot → List Spot
+first_beyond most places = elim (slice_get places most) [ None ↦ [] | Some s ↦ s ∷ [] ]
+
 abbrev pub most_functions : ℕ
 most_functions = 4096
 
@@ -84,13 +88,13 @@ case_numbers (terminator.Switch t) = map (λ (c : Case). c.at) t.cases
 case_numbers (terminator.Return t) = []
 case_numbers (terminator.Unreachable at) = []
 
--- the cases of a function's switches that are too many
+-- the first case too many of each switch of a function
 abbrev pub case_excess : Function → List Spot
-case_excess f = flat_map (λ (b : Block). drop most_cases (case_numbers b.terminator)) f.blocks
+case_excess f = flat_map (λ (b : Block). first_beyond most_cases (case_numbers b.terminator)) f.blocks
 
--- the parameters of a function that are too many
+-- the first parameter of a function that is too many
 abbrev pub parameter_excess : Function → List Spot
-parameter_excess f = drop most_parameters (map (λ (q : Parameter). q.name.at) f.parameters)
+parameter_excess f = first_beyond most_parameters (map (λ (q : Parameter). q.name.at) f.parameters)
 
 -- ---- nested types
 
@@ -133,9 +137,9 @@ nested_places m t = unless (nests_within most_nested m t.ty) t.at
 -- all places where a count is exceeded, in no order
 abbrev pub count_places : Parts → List Spot
 count_places m =
-    drop most_functions (map (λ (f : Function). f.name.at) m.functions)
-    ++ drop most_globals (map (λ (g : Global). g.name.at) m.globals)
-    ++ drop most_instructions (module_words m)
+    first_beyond most_functions (map (λ (f : Function). f.name.at) m.functions)
+    ++ first_beyond most_globals (map (λ (g : Global). g.name.at) m.globals)
+    ++ first_beyond most_instructions (module_words m)
     ++ flat_map parameter_excess m.functions
     ++ flat_map case_excess m.functions
     ++ flat_map (nested_places m) (module_types m)

@@ -16,6 +16,10 @@
 //! ```
 #![tactic(auto)]
 
+mod counts;
 mod laws;
+mod place;
+mod words;
 
+pub use counts::{cases_beyond, function_beyond, global_beyond, parameters_beyond};
 pub use laws::{one_refusal, paths_told};
