@@ -2,6 +2,7 @@ mod Firsts
 pub mod Places
 pub mod PlaceLemmas
 pub mod CountLemmas
+pub mod SeekingLemmas
 mod Refusals
 pub mod TypeLemmas
 pub mod InitialLemmas

@@ -15,3 +15,4 @@ pub mod Unset
 pub mod Phis
 pub mod Counts
 pub mod Check
+pub mod Seeking

@@ -19,7 +19,9 @@
 mod counts;
 mod laws;
 mod place;
+mod sought;
 mod words;
 
 pub use counts::{cases_beyond, function_beyond, global_beyond, parameters_beyond};
 pub use laws::{one_refusal, paths_told};
+pub use words::instruction_beyond;
