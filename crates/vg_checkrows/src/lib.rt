@@ -12,7 +12,9 @@
 #![tactic(auto)]
 
 mod flows;
+mod placed;
 mod typed;
 
 pub use flows::{accepted, holding, reads};
+pub use placed::{costs, places};
 pub use typed::{calls, casts, ends, initializers, instructions};

@@ -29,7 +29,7 @@ address_from m t at (g ∷ gs) n =
 
 -- the address of a global
 abbrev pub address_of : Parts → Target → Name → ℕ
-address_of m t n = address_from m t t.data m.globals n
+address_of m t n = address_from m t t.data_base m.globals n
 
 -- the function in which a run begins
 abbrev pub entry_of : Parts → List ℕ → Option Function

@@ -74,7 +74,7 @@ size_places m t =
     ++ flat_map (λ (i : IntegerAt). unless (nat_le i.width t.width) i.at) (module_integers m)
     ++ flat_map (λ (g : Global). align_places g.align) m.globals
     ++ flat_map alloca_places m.functions
-    ++ high_places m t t.data 0 m.globals
+    ++ high_places m t t.data_base 0 m.globals
     ++ flat_map (frame_places m t) m.functions
 
 -- ---- in their order

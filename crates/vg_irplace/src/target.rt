@@ -4,7 +4,7 @@ pub struct Target {
     /// The bits of an address: 16, 32 or 64.
     pub width: u8,
     /// Where data begins.
-    pub data: u64,
+    pub data_base: u64,
     /// The lowest address of the stack.
     pub low: u64,
     /// The address behind the highest of the stack.
