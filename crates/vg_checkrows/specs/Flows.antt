@@ -1,10 +1,14 @@
 -- Functions whose values are set on some paths alone, and structures that hold one another.
-use Rattle.std.specs.Prelude.{[], ◌∷◌}
+use Rattle.std.specs.Prelude.{Bool, List, [], ◌∷◌}
 use Rattle.vg_ir.specs.declared.ty.Ty.TheVariants.{Int, Ptr, Array, Struct, Named}
+use Rattle.vg_ir.specs.declared.operand.Value.TheVariants.{True}
+use Rattle.vg_ir.specs.declared.block.Phi.{Phi}
+use Rattle.vg_ir.specs.declared.block.Incoming.{Incoming}
+use Rattle.vg_ircheck.specs.Phis.{lists_predecessors}
 use Rattle.vg_ir.specs.declared.operator.BinaryOperator.TheVariants.{Add}
 use Rattle.vg_ir.specs.declared.function.Function.{Function}
 use Rattle.vg_ir.specs.declared.module.Parts.{Parts}
-use Rattle.vg_irrows.specs.Words.{named, name_at, type_at, local, number, binary, jump, branch, ret, block, parameter, function, functions}
+use Rattle.vg_irrows.specs.Words.{named, name_at, type_at, local, number, constant, binary, jump, branch, ret, phi, block, parameter, function, functions}
 
 -- define i32 @u(i1 %c) {
 --   br i1 %c, label %a, label %b
@@ -56,3 +60,26 @@ rings = record {
   globals = [];
   functions = [];
 }
+
+-- define i32 @p() {
+--   br label %l
+-- l:
+--   PHI
+--   br i1 true, label %l, label %e
+-- e:
+--   ret i32 0
+-- }
+abbrev pub loop_with : Phi → Function
+loop_with p = function (Int 32) "p" [] (
+    block "0" [] [] (jump "l")
+    ∷ block "l" (p ∷ []) [] (branch (constant True) "l" "e")
+    ∷ block "e" [] [] (ret (Int 32) (number 0))
+    ∷ [])
+
+-- a phi of its second block, from some blocks
+abbrev pub phi_from : List Incoming → Phi
+phi_from from = phi "a" (Int 8) from
+
+-- the blocks that it lists are those from which an edge leads to it
+abbrev pub lists_right : List Incoming → Bool
+lists_right from = lists_predecessors (loop_with (phi_from from)) 1 (phi_from from)

@@ -15,6 +15,6 @@ mod flows;
 mod placed;
 mod typed;
 
-pub use flows::{accepted, holding, reads};
+pub use flows::{accepted, holding, names, phis, reads};
 pub use placed::{costs, places};
 pub use typed::{calls, casts, ends, initializers, instructions};
