@@ -1,0 +1,4 @@
+pub mod Frames
+pub mod Addresses
+pub mod Costs
+pub mod Refused
