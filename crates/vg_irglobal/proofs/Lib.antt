@@ -1,0 +1,4 @@
+pub mod Lids
+pub mod Below
+pub mod Rows
+pub mod InitialsExact

@@ -1,0 +1,2 @@
+pub mod ReadingInitial
+pub mod ExactInitial
