@@ -1,5 +1,5 @@
 -- Reading initialisers of globals.
-use Rattle.std.specs.Prelude.{ℕ, zero, suc, ◌||◌, Bool, List, [], ◌∷◌, codes, Option}
+use Rattle.std.specs.Prelude.{ℕ, zero, suc, ◌||◌, Bool, false, List, [], ◌∷◌, codes, Option}
 use Rattle.vg_irlex.specs.Lexing.{is_c_quoted}
 use Rattle.vg_ir.specs.declared.ty.TypeAt.{TypeAt}
 use Rattle.vg_ir.specs.declared.initializer.Initializer.{Initializer}
@@ -12,10 +12,19 @@ use Rattle.vg_irparse.specs.Answer.{too_deep}
 use Rattle.vg_irparse.specs.ReadingType.{wanted}
 use Rattle.vg_irparse.specs.Words.{same_text, is_one_of, constant_words}
 use Rattle.vg_irparse.specs.Tree as tree
-use Rattle.vg_irread.specs.Kinds.{Kind, words, c_quoted, global, number}
+use Rattle.vg_irread.specs.Kinds.{Kind, words, c_quoted, global, number, is_in}
 use Rattle.vg_irread.specs.Reading.{Reader, done, token_at, many_at, either_at, ◌>>=◌}
 use Rattle.vg_irread.specs.ReadingType.{type_at}
 use Rattle.vg_irread.specs.ReadingOperand.{behind, sign_at, taken, is_number_for}
+
+-- the next lexeme is of these kinds
+abbrev pub next_in : List Kind → List Placed → Bool
+next_in kinds [] = false
+next_in kinds (t ∷ ts) = is_in kinds t.text
+
+-- one word or sign
+abbrev pub only : List ℕ → List Kind
+only text = words (text ∷ []) ∷ []
 
 -- ---- one lexeme
 
@@ -50,7 +59,7 @@ next_part_at read = do
   part_at read
 
 abbrev pub comma : List Kind
-comma = words (codes "," ∷ []) ∷ []
+comma = only (codes ",")
 
 -- T INIT , ..
 unfoldable pub parts_at : (Option ℕ → Reader Initializer) → Reader (List (TypeAt × Initializer))

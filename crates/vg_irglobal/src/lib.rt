@@ -8,6 +8,8 @@
 //! tree begins with the lexemes in front, and the next one is refused whatever is behind it ([`exact_initials`]).
 #![tactic(auto)]
 
+mod initial;
 mod laws;
 
+pub use initial::initial_at;
 pub use laws::exact_initials;
