@@ -4,3 +4,4 @@ pub mod Rows
 pub mod InitialsExact
 pub mod Steps
 pub mod Within
+pub mod GlobalsExact

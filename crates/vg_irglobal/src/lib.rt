@@ -12,4 +12,4 @@ mod initial;
 mod laws;
 
 pub use initial::initial_at;
-pub use laws::exact_initials;
+pub use laws::{exact_globals, exact_initials};
