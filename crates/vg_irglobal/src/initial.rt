@@ -11,6 +11,7 @@ ghost use Rattle.vg_irread.specs.Reading.{many_at};
 ghost use Rattle.vg_irread.specs.ReadingOperand.{IsWidth};
 ghost use Rattle.vg_irglobal.specs.ReadingInitial;
 
+use crate::word::next_is;
 use sqlite_items::Items;
 use std::alloc::{AllocError, Global};
 use vg_ir::{Initializer, Text, TypeAt};
@@ -112,16 +113,6 @@ fn simple_at<'a>(
     }
     let initial = simple_of(alloc, bytes, first.start)?;
     Ok((initial, rest))
-}
-
-/// Whether the next lexeme is this one.
-fn next_is(word: &[u8], text: &[u8], tokens: &[Lexeme]) -> bool
-    ensures { result ≡ ReadingInitial.next_in (ReadingInitial.only word.now) (placed text.now tokens.now) }
-{
-    match tokens.split_first() {
-        Some((first, _)) => word == piece(text, *first),
-        None => false,
-    }
 }
 
 /// `T INIT`

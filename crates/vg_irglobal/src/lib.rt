@@ -8,8 +8,11 @@
 //! tree begins with the lexemes in front, and the next one is refused whatever is behind it ([`exact_initials`]).
 #![tactic(auto)]
 
+mod global;
 mod initial;
 mod laws;
+mod word;
 
+pub use global::global_item_at;
 pub use initial::initial_at;
 pub use laws::{exact_globals, exact_initials};
