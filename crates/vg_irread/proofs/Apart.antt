@@ -5,10 +5,10 @@ use Rattle.std.proofs.lemmas.Bool.Decides.{nat_tests}
 use Rattle.std.proofs.lemmas.Slice.Eq.{bytes_eq-Decides}
 use Rattle.std.specs.List.{list_all}
 use Rattle.std.specs.Char.{is_ascii_digit}
-use Rattle.vg_irlex.specs.Lexing.{are_digits, is_quoted, ends_quote, is_word_name, may_start_name, may_continue_name}
+use Rattle.vg_irlex.specs.Lexing.{are_digits, is_quoted, is_c_quoted, ends_quote, is_word_name, may_start_name, may_continue_name}
 use Rattle.vg_irparse.specs.Text.{is_local, is_global, is_group, is_number, is_label}
 use Rattle.vg_irparse.specs.Words.{is_one_of, same_text}
-use Rattle.vg_irread.specs.Kinds.{Kind, words, local, global, group, digits, number, label, is_of, is_in, head, is_within, is_among, byte, heads, are_apart, heads_apart, words_apart, kinds_apart, apart}
+use Rattle.vg_irread.specs.Kinds.{Kind, words, c_quoted, local, global, group, digits, number, label, is_of, is_in, head, is_within, is_among, byte, heads, are_apart, heads_apart, words_apart, kinds_apart, apart}
 
 -- one of two tests holds
 pub if_cases : (b c : Bool) → cond b true c ≡ true → (b ≡ true) ⊎ (c ≡ true)
@@ -153,8 +153,13 @@ label_head t h =
     quoted_label [] h = absurd (cc)
     quoted_label (c ∷ cs) h = let p = (and_parts (c == 34) (ends_quote cs) h).0 in let e : 34 ≡ c = grind (arith, nat_tests) in subst (λ z. is_among (heads label) z ≡ true) e refl
 
+c_quoted_head : (t : List ℕ) → is_c_quoted t ≡ true → is_among (heads c_quoted) (head t) ≡ true
+c_quoted_head [] h = absurd (cc)
+c_quoted_head (c ∷ cs) h = if_first _ _ (one_byte 99 c _ h)
+
 head_of : (k : Kind) (t : List ℕ) → is_of k t ≡ true → is_among (heads k) (head t) ≡ true
 head_of (words ws) t h = words_head ws t h
+head_of c_quoted t h = c_quoted_head t h
 head_of local t h = local_head t h
 head_of global t h = global_head t h
 head_of group t h = group_head t h
@@ -178,6 +183,7 @@ no_word (w ∷ ws) vs t h k l =
 
 word_apart : (ws : List (List ℕ)) (b : Kind) (t : List ℕ) → words_apart ws b ≡ true → is_of (words ws) t ≡ true → is_of b t ≡ true → ⊥
 word_apart ws (words vs) t h k l = no_word ws vs t h k l
+word_apart ws c_quoted t h k l = by_heads (words ws) c_quoted t h k l
 word_apart ws local t h k l = by_heads (words ws) local t h k l
 word_apart ws global t h k l = by_heads (words ws) global t h k l
 word_apart ws group t h k l = by_heads (words ws) group t h k l
@@ -187,6 +193,7 @@ word_apart ws label t h k l = by_heads (words ws) label t h k l
 
 kind_apart : (a b : Kind) (t : List ℕ) → kinds_apart a b ≡ true → is_of a t ≡ true → is_of b t ≡ true → ⊥
 kind_apart (words ws) b t h k l = word_apart ws b t h k l
+kind_apart c_quoted b t h k l = by_heads c_quoted b t h k l
 kind_apart local b t h k l = by_heads local b t h k l
 kind_apart global b t h k l = by_heads global b t h k l
 kind_apart group b t h k l = by_heads group b t h k l

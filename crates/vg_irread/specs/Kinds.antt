@@ -1,12 +1,13 @@
 -- Kinds of lexemes by their bytes, and sets of kinds that have no lexeme in common.
 use Rattle.std.specs.Prelude.{ℕ, Bool, true, false, not, ◌&&◌, ◌||◌, nat_lt, nat_le, if◌then◌else◌, List, [], ◌∷◌, map}
 use Rattle.std.specs.List.{list_all}
-use Rattle.vg_irlex.specs.Lexing.{are_digits}
+use Rattle.vg_irlex.specs.Lexing.{are_digits, is_c_quoted}
 use Rattle.vg_irparse.specs.Text.{is_local, is_global, is_group, is_number, is_label}
 use Rattle.vg_irparse.specs.Words.{is_one_of}
 
 pub data Kind : Type 0 where
   words : List (List ℕ) → Kind
+  c_quoted : Kind
   local : Kind
   global : Kind
   group : Kind
@@ -16,6 +17,7 @@ pub data Kind : Type 0 where
 
 abbrev pub is_of : Kind → List ℕ → Bool
 is_of (words ws) text = is_one_of ws text
+is_of c_quoted text = is_c_quoted text
 is_of local text = is_local text
 is_of global text = is_global text
 is_of group text = is_group text
@@ -47,9 +49,10 @@ is_among (range ∷ ranges) c = if is_within range c then true else is_among ran
 abbrev pub byte : ℕ → ℕ × ℕ
 byte c = (c, c)
 
--- the bytes that a lexeme of a kind may begin with: `%` is 37, `@` 64, `#` 35, `-` 45, `$` 36, `.` 46, `_` 95, `"` 34
+-- the bytes that a lexeme of a kind may begin with: `%` is 37, `@` 64, `#` 35, `-` 45, `$` 36, `.` 46, `_` 95, `"` 34, `c` 99
 abbrev pub heads : Kind → List (ℕ × ℕ)
 heads (words ws) = map (λ w. byte (head w)) ws
+heads c_quoted = byte 99 ∷ []
 heads local = byte 37 ∷ []
 heads global = byte 64 ∷ []
 heads group = byte 35 ∷ []
@@ -66,6 +69,7 @@ heads_apart zs bs = list_all (λ a. list_all (are_apart a) bs) zs
 
 abbrev pub words_apart : List (List ℕ) → Kind → Bool
 words_apart ws (words vs) = list_all (λ w. not (is_one_of vs w)) ws
+words_apart ws c_quoted = heads_apart (heads (words ws)) (heads c_quoted)
 words_apart ws local = heads_apart (heads (words ws)) (heads local)
 words_apart ws global = heads_apart (heads (words ws)) (heads global)
 words_apart ws group = heads_apart (heads (words ws)) (heads group)
@@ -75,6 +79,7 @@ words_apart ws label = heads_apart (heads (words ws)) (heads label)
 
 abbrev pub kinds_apart : Kind → Kind → Bool
 kinds_apart (words ws) b = words_apart ws b
+kinds_apart c_quoted b = heads_apart (heads c_quoted) (heads b)
 kinds_apart local b = heads_apart (heads local) (heads b)
 kinds_apart global b = heads_apart (heads global) (heads b)
 kinds_apart group b = heads_apart (heads group) (heads b)

@@ -27,3 +27,8 @@ mod types;
 mod word;
 
 pub use laws::{exact_instructions, exact_operands};
+pub use number::number_of;
+pub use operand::{is_number_for, sign_at};
+pub use place::{behind, spot, wanted};
+pub use types::any_type_at;
+pub use word::is_constant;

@@ -9,7 +9,7 @@ use vg_ir::Number;
 use vg_irparse::{exact_value, is_number, kept_value};
 
 /// A number as it is kept.
-pub(crate) fn number_of(text: &[u8]) -> Number
+pub fn number_of(text: &[u8]) -> Number
     ensures { result ≡ number_of text.now }
 {
     match text.split_first() {

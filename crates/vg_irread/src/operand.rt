@@ -66,7 +66,8 @@ fn value_of(alloc: Global, text: &[u8]) -> Result<Value, AllocError>
     Ok(Value::Number(number_of(text)))
 }
 
-fn is_number_for(width: Option<u8>, text: &[u8]) -> bool
+/// A number of an integer of so many bits, or at a type that is none.
+pub fn is_number_for(width: Option<u8>, text: &[u8]) -> bool
     requires { IfSome width (λ w. ReadingOperand.IsWidth w) }
     ensures { result ≡ ReadingOperand.is_number_for width text.now }
 {
@@ -105,7 +106,7 @@ pub(crate) fn operand_at<'a>(
 }
 
 /// These very bytes, and where they stand.
-pub(crate) fn sign_at<'a>(
+pub fn sign_at<'a>(
     word: &[u8],
     wanted: Wanted,
     text: &[u8],

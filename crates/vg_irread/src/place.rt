@@ -8,7 +8,7 @@ use vg_ir::Spot;
 use vg_irparse::{Role, Wanted};
 
 /// A place where this is wanted, not behind a type.
-pub(crate) fn wanted(role: Role) -> Wanted
+pub fn wanted(role: Role) -> Wanted
     ensures { result ≡ wanted role }
 {
     Wanted {
@@ -18,7 +18,7 @@ pub(crate) fn wanted(role: Role) -> Wanted
 }
 
 /// A place behind a type where this is wanted.
-pub(crate) fn behind(role: Role) -> Wanted
+pub fn behind(role: Role) -> Wanted
     ensures { result ≡ behind role }
 {
     Wanted {
@@ -27,7 +27,8 @@ pub(crate) fn behind(role: Role) -> Wanted
     }
 }
 
-pub(crate) fn spot(at: usize) -> Spot
+/// A place in the one text that is read.
+pub fn spot(at: usize) -> Spot
     ensures { result ≡ record { unit = 0; at = at } }
 {
     Spot { unit: 0, at }

@@ -64,7 +64,7 @@ pub(crate) fn value_type_at<'a>(
 }
 
 /// A type of any kind.
-pub(crate) fn any_type_at<'a>(
+pub fn any_type_at<'a>(
     alloc: Global,
     wanted: Wanted,
     text: &[u8],

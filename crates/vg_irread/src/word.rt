@@ -56,7 +56,7 @@ pub(crate) fn constant_of(text: &[u8]) -> Option<Value>
 const CONSTANTS: [&[u8]; 5] = [b"true", b"false", b"null", b"undef", b"poison"];
 
 /// Whether a word is a value.
-pub(crate) fn is_constant(text: &[u8]) -> bool
+pub fn is_constant(text: &[u8]) -> bool
     ensures { result ≡ is_one_of constant_words text.now }
 {
     is_one_of(&CONSTANTS, text)

@@ -1,0 +1,4 @@
+pub mod ReadingInitial
+pub mod ExactInitial
+pub mod ReadingGlobal
+pub mod ExactGlobal

@@ -1,0 +1,13 @@
+ghost use Rattle.vg_irglobal.specs.ExactInitial.{InitialsAreExact};
+ghost use Rattle.vg_irglobal.specs.ExactGlobal.{GlobalsAreExact};
+
+/// What is read as an initialiser is one of the grammar that the lexemes in front spell; each one is read, where it ends; and
+/// where one is refused, the lexemes leave the grammar.
+pub fn exact_initials()
+    ensures { InitialsAreExact }
+{}
+
+/// So it is with globals.
+pub fn exact_globals()
+    ensures { GlobalsAreExact }
+{}
