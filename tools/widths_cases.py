@@ -25,8 +25,6 @@ OPERANDS = {
     "a great number": "0x100000000",
 }
 BINARY = "| ^ & = != < <= > >= << >> + - * *# / %".split()
-# the program doesn't ask these rules yet
-UNASKED = {"11", "12"}
 TARGETS = "Bits<1> Bits<32> Bits<128> UInt<5> SInt<64> Bool Bits<0> SInt<129>".split()
 
 
@@ -57,7 +55,7 @@ def expressions():
 
 def worked(number, text, answer):
     title = "worked out %d" % number
-    if answer != "accepted" and answer.split()[0] not in UNASKED:
+    if answer != "accepted":
         return case(title, "check d.vadl", [("d.vadl", text)], "refused: description " + answer)
     kept = OLD.get(title, "refused: not built")
     if not re.fullmatch(r"ok T \d+|refused: not built at \d+:\d+", kept):

@@ -16,10 +16,7 @@ use vg_irread::{any_type_at, sign_at, spot, wanted};
 
 /// The number of an alignment.
 #[tactic(auto, using(crate::proofs::Steps::code_steps))]
-fn alignment_at<'a>(
-    text: &[u8],
-    tokens: &'a [Lexeme],
-) -> Result<(Alignment, &'a [Lexeme]), Stop>
+fn alignment_at<'a>(text: &[u8], tokens: &'a [Lexeme]) -> Result<(Alignment, &'a [Lexeme]), Stop>
     ensures { Gives (λ x. (x.0, placed text.now x.1.now)) result (ReadingGlobal.alignment_at most_brackets (placed text.now tokens.now)) }
 {
     let wrong = Stop::Leaves {

@@ -17,7 +17,9 @@ use std::alloc::{AllocError, Global};
 use vg_ir::{Initializer, Text, TypeAt};
 use vg_irlex::{Lexeme, piece};
 use vg_irparse::{Role, Stop, bare_bytes, is_global, is_quoted, name_of};
-use vg_irread::{any_type_at, behind, is_constant, is_number_for, number_of, sign_at, spot, wanted};
+use vg_irread::{
+    any_type_at, behind, is_constant, is_number_for, number_of, sign_at, spot, wanted,
+};
 
 /// So many brackets of initialisers stand in one another at most. Where a text has more, there is no memory for it.
 const MOST_BRACKETS: u16 = 1000;

@@ -80,10 +80,7 @@ fn next_is_linkage(text: &[u8], tokens: &[Lexeme]) -> bool
 
 /// A word that says who may name it.
 #[tactic(auto, using(crate::proofs::Steps::code_steps))]
-fn linkage_word_at<'a>(
-    text: &[u8],
-    tokens: &'a [Lexeme],
-) -> Result<(Linkage, &'a [Lexeme]), Stop>
+fn linkage_word_at<'a>(text: &[u8], tokens: &'a [Lexeme]) -> Result<(Linkage, &'a [Lexeme]), Stop>
     ensures { Gives (λ x. (x.0, placed text.now x.1.now)) result (ReadingGlobal.linkage_word_at most_brackets (placed text.now tokens.now)) }
 {
     let wrong = Stop::Leaves {
