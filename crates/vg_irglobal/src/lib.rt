@@ -11,8 +11,10 @@
 mod global;
 mod initial;
 mod laws;
+#[cfg(test)]
+mod tests;
 mod word;
 
 pub use global::global_item_at;
 pub use initial::initial_at;
-pub use laws::{exact_globals, exact_initials};
+pub use laws::{exact_globals, exact_initials, exact_structures};
