@@ -57,6 +57,7 @@ fn texts_have_their_globals(rt: HostRuntime) -> Result<(), Fail> {
     }
     exact_initials();
     exact_globals();
+    exact_structures();
     Ok(())
 }
 
@@ -73,5 +74,34 @@ fn brackets_stand_in_one_another(rt: HostRuntime) -> Result<(), Fail> {
     }
     let found = shown(alloc, text.as_slice())?;
     assert_eq!(rt; found.as_str(), "0 left, false None 0");
+    Ok(())
+}
+
+/// How many lexemes are left behind a named structure, or from where the text leaves the grammar on.
+fn left_behind(alloc: Global, text: &[u8]) -> Result<String, Fail> {
+    let tokens = lexemes(alloc, text)?;
+    match structure_at(alloc, text, tokens.as_slice()) {
+        Ok((_, rest)) => {
+            let left = rest.len();
+            Ok(format!(in alloc; "{left} left")?)
+        }
+        Err(Stop::Leaves { left, .. }) => Ok(format!(in alloc; "{left} from the end")?),
+        Err(Stop::OutOfMemory) => Ok(String::from_str(alloc, "out of memory")?),
+    }
+}
+
+const STRUCTURES: [(&[u8], &str); 4] = [
+    (b"%T = type { i32, [2 x %U] } %U", "1 left"),
+    (b"%T = type i32", "1 from the end"),
+    (b"%T = type {}", "1 from the end"),
+    (b"@T = type { i32 }", "6 from the end"),
+];
+
+#[test]
+fn texts_have_their_structures(rt: HostRuntime) -> Result<(), Fail> {
+    for (text, want) in STRUCTURES {
+        let found = left_behind(rt.alloc(), text)?;
+        assert_eq!(rt; found.as_str(), want, "at {text:?}");
+    }
     Ok(())
 }
