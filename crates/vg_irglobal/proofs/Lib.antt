@@ -5,3 +5,5 @@ pub mod InitialsExact
 pub mod Steps
 pub mod Within
 pub mod GlobalsExact
+pub mod Doors
+pub mod StructuresExact

@@ -2,3 +2,5 @@ pub mod ReadingInitial
 pub mod ExactInitial
 pub mod ReadingGlobal
 pub mod ExactGlobal
+pub mod ReadingStructure
+pub mod ExactStructure

@@ -1,5 +1,6 @@
 ghost use Rattle.vg_irglobal.specs.ExactInitial.{InitialsAreExact};
 ghost use Rattle.vg_irglobal.specs.ExactGlobal.{GlobalsAreExact};
+ghost use Rattle.vg_irglobal.specs.ExactStructure.{StructuresAreExact};
 
 /// What is read as an initialiser is one of the grammar that the lexemes in front spell; each one is read, where it ends; and
 /// where one is refused, the lexemes leave the grammar.
@@ -10,4 +11,9 @@ pub fn exact_initials()
 /// So it is with globals.
 pub fn exact_globals()
     ensures { GlobalsAreExact }
+{}
+
+/// And with named structures.
+pub fn exact_structures()
+    ensures { StructuresAreExact }
 {}
