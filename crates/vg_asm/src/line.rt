@@ -60,12 +60,7 @@ fn push_parts(
 }
 
 /// Appends what a word of an instruction is shown as: its line, or `-` where it has no template.
-fn push_shown(
-    out: &mut Vec<u8>,
-    isa: &Isa,
-    instr: &Instr,
-    word: Bits,
-) -> Result<(), AllocError>
+fn push_shown(out: &mut Vec<u8>, isa: &Isa, instr: &Instr, word: Bits) -> Result<(), AllocError>
     requires instr { IsTrue (is_instr isa.now instr.now) }
     requires word { word.width ≡ isa.now.word }
     ensures { OnOk result (out.new.items ≡ out.old.items ++ shown_as isa.now word.number instr.now) }
