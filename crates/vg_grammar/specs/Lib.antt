@@ -2,3 +2,4 @@ pub mod Lexeme
 pub mod Line
 pub mod Reading
 pub mod Ambiguous
+pub mod Numeral
