@@ -21,9 +21,11 @@ mod laws;
 mod number;
 mod operand;
 mod place;
+mod terminator;
 #[cfg(test)]
 mod tests;
 mod types;
 mod word;
 
-pub use laws::{exact_instructions, exact_operands};
+pub use laws::{exact_instructions, exact_operands, exact_terminators};
+pub use terminator::terminator_at;

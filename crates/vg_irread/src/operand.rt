@@ -66,7 +66,7 @@ fn value_of(alloc: Global, text: &[u8]) -> Result<Value, AllocError>
     Ok(Value::Number(number_of(text)))
 }
 
-fn is_number_for(width: Option<u8>, text: &[u8]) -> bool
+pub(crate) fn is_number_for(width: Option<u8>, text: &[u8]) -> bool
     requires { IfSome width (λ w. ReadingOperand.IsWidth w) }
     ensures { result ≡ ReadingOperand.is_number_for width text.now }
 {
