@@ -20,3 +20,4 @@ pub mod OperationExact
 pub mod Loop
 pub mod Loops
 pub mod TerminatorExact
+pub mod Rows

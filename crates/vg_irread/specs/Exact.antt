@@ -104,6 +104,29 @@ run p s = record {
   nests = λ ts. greatest (map p.nests ts);
 }
 
+-- there are some
+abbrev pub are_some : {T : Type 0} → List T → Bool
+are_some [] = false
+are_some (t ∷ ts) = true
+
+-- as many as there are, which stand for whether there are some
+abbrev pub skipped : {T X : Type 0} → Spelling T X → Spelling (List T) Bool
+skipped s = record {
+  grammar = λ ts. list_all s.grammar ts;
+  spelled = λ ts behind. spelled_list s.spelled ts behind;
+  means = λ ts. are_some ts;
+  nests = λ ts. greatest (map s.nests ts);
+}
+
+-- as many as there are, behind those so far
+abbrev pub row : {T X : Type 0} → Spelling T X → List X → Spelling (List T) (List X)
+row s xs = record {
+  grammar = λ ts. list_all s.grammar ts;
+  spelled = λ ts behind. spelled_list s.spelled ts behind;
+  means = λ ts. xs ++ map s.means ts;
+  nests = λ ts. greatest (map s.nests ts);
+}
+
 -- by the alternative
 abbrev pub by : {A B C : Type 0} → (A → C) → (B → C) → A ⊎ B → C
 by f g (inl a) = f a

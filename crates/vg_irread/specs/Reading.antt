@@ -69,9 +69,21 @@ loop_from (suc fuel) kinds read s d (t ∷ ts) =
 abbrev pub loop_at : {S : Type 0} → List Kind → (S → Reader S) → S → Reader S
 loop_at kinds read s d ts = loop_from (length ts + 1) kinds read s d ts
 
+-- whether some are read, as many as there are
+abbrev pub skipped_at : {X : Type 0} → List Kind → Reader X → Reader Bool
+skipped_at kinds read = loop_at kinds (λ b. read >>= λ x. done true) false
+
+-- as many as there are, behind those so far
+abbrev pub row_at : {X : Type 0} → List Kind → Reader X → List X → Reader (List X)
+row_at kinds read xs = loop_at kinds (λ ys. read >>= λ x. done (ys ++ x ∷ [])) xs
+
 -- ---- one or another
 
 -- the first where the next lexeme is of these kinds, else the second
 abbrev pub either_at : {X : Type 0} → List Kind → Reader X → Reader X → Reader X
 either_at kinds first second d [] = second d []
 either_at kinds first second d (t ∷ ts) = if is_in kinds t.text then first d (t ∷ ts) else second d (t ∷ ts)
+
+-- the first where it may stand and the next lexeme is of these kinds, else the second
+abbrev pub allowed_at : {X : Type 0} → Bool → List Kind → Reader X → Reader X → Reader X
+allowed_at may kinds first second = if may then either_at kinds first second else second
