@@ -8,7 +8,7 @@ use Rattle.std.specs.Char.{is_ascii_digit}
 use Rattle.vg_irlex.specs.Lexing.{are_digits, is_quoted, is_c_quoted, ends_quote, is_word_name, may_start_name, may_continue_name}
 use Rattle.vg_irparse.specs.Text.{is_local, is_global, is_group, is_number, is_label}
 use Rattle.vg_irparse.specs.Words.{is_one_of, same_text}
-use Rattle.vg_irread.specs.Kinds.{Kind, words, c_quoted, local, global, group, digits, number, label, is_of, is_in, head, is_within, is_among, byte, heads, are_apart, heads_apart, words_apart, kinds_apart, apart}
+use Rattle.vg_irread.specs.Kinds.{Kind, words, c_quoted, local, global, group, digits, number, label, others, is_of, is_in, head, is_within, is_among, byte, heads, has_heads, are_apart, heads_apart, words_apart, others_apart, kinds_apart, apart}
 
 -- one of two tests holds
 pub if_cases : (b c : Bool) → cond b true c ≡ true → (b ≡ true) ⊎ (c ≡ true)
@@ -157,20 +157,21 @@ c_quoted_head : (t : List ℕ) → is_c_quoted t ≡ true → is_among (heads c_
 c_quoted_head [] h = absurd (cc)
 c_quoted_head (c ∷ cs) h = if_first _ _ (one_byte 99 c _ h)
 
-head_of : (k : Kind) (t : List ℕ) → is_of k t ≡ true → is_among (heads k) (head t) ≡ true
-head_of (words ws) t h = words_head ws t h
-head_of c_quoted t h = c_quoted_head t h
-head_of local t h = local_head t h
-head_of global t h = global_head t h
-head_of group t h = group_head t h
-head_of digits t h = if_first _ _ (digits_head t h)
-head_of number t h = number_head t h
-head_of label t h = label_head t h
+head_of : (k : Kind) (t : List ℕ) → has_heads k ≡ true → is_of k t ≡ true → is_among (heads k) (head t) ≡ true
+head_of (words ws) t m h = words_head ws t h
+head_of c_quoted t m h = c_quoted_head t h
+head_of local t m h = local_head t h
+head_of global t m h = global_head t h
+head_of group t m h = group_head t h
+head_of digits t m h = if_first _ _ (digits_head t h)
+head_of number t m h = number_head t h
+head_of label t m h = label_head t h
+head_of (others ws) t m h = absurd (cc)
 
 -- ---- kinds
 
-by_heads : (a b : Kind) (t : List ℕ) → heads_apart (heads a) (heads b) ≡ true → is_of a t ≡ true → is_of b t ≡ true → ⊥
-by_heads a b t h k l = among_apart (heads a) (heads b) (head t) h (head_of a t k) (head_of b t l)
+by_heads : (a b : Kind) (t : List ℕ) → has_heads a ≡ true → has_heads b ≡ true → heads_apart (heads a) (heads b) ≡ true → is_of a t ≡ true → is_of b t ≡ true → ⊥
+by_heads a b t m n h k l = among_apart (heads a) (heads b) (head t) h (head_of a t m k) (head_of b t n l)
 
 no_word : (ws vs : List (List ℕ)) (t : List ℕ) → list_all (λ w. not (is_one_of vs w)) ws ≡ true → is_one_of ws t ≡ true → is_one_of vs t ≡ true → ⊥
 no_word [] vs t h k l = absurd (cc)
@@ -181,25 +182,54 @@ no_word (w ∷ ws) vs t h k l =
       | inr x ↦ no_word ws vs t p.1 x l
     ]
 
+-- a word of the one list is one of the other
+one_of_both : (ws vs : List (List ℕ)) (t : List ℕ) → list_all (is_one_of vs) ws ≡ true → is_one_of ws t ≡ true → is_one_of vs t ≡ true
+one_of_both [] vs t h k = absurd (cc)
+one_of_both (w ∷ ws) vs t h k =
+    let p = and_parts (is_one_of vs w) (list_all (is_one_of vs) ws) h in
+    elim (if_cases (same_text w t) (is_one_of ws t) k) [
+      | inl x ↦ ap (is_one_of vs) (sym (same_is w t x)) ∙ p.0
+      | inr x ↦ one_of_both ws vs t p.1 x
+    ]
+
+no_other : (ws vs : List (List ℕ)) (t : List ℕ) → list_all (is_one_of vs) ws ≡ true → is_one_of ws t ≡ true → not (is_one_of vs t) ≡ true → ⊥
+no_other ws vs t h k l = both_ways (is_one_of vs t) (not-true (is_one_of vs t) l) (one_of_both ws vs t h k)
+
 word_apart : (ws : List (List ℕ)) (b : Kind) (t : List ℕ) → words_apart ws b ≡ true → is_of (words ws) t ≡ true → is_of b t ≡ true → ⊥
 word_apart ws (words vs) t h k l = no_word ws vs t h k l
-word_apart ws c_quoted t h k l = by_heads (words ws) c_quoted t h k l
-word_apart ws local t h k l = by_heads (words ws) local t h k l
-word_apart ws global t h k l = by_heads (words ws) global t h k l
-word_apart ws group t h k l = by_heads (words ws) group t h k l
-word_apart ws digits t h k l = by_heads (words ws) digits t h k l
-word_apart ws number t h k l = by_heads (words ws) number t h k l
-word_apart ws label t h k l = by_heads (words ws) label t h k l
+word_apart ws c_quoted t h k l = by_heads (words ws) c_quoted t refl refl h k l
+word_apart ws local t h k l = by_heads (words ws) local t refl refl h k l
+word_apart ws global t h k l = by_heads (words ws) global t refl refl h k l
+word_apart ws group t h k l = by_heads (words ws) group t refl refl h k l
+word_apart ws digits t h k l = by_heads (words ws) digits t refl refl h k l
+word_apart ws number t h k l = by_heads (words ws) number t refl refl h k l
+word_apart ws label t h k l = by_heads (words ws) label t refl refl h k l
+word_apart ws (others vs) t h k l = no_other ws vs t h k l
+
+other_apart : (vs : List (List ℕ)) (b : Kind) (t : List ℕ) → others_apart vs b ≡ true → is_of (others vs) t ≡ true → is_of b t ≡ true → ⊥
+other_apart vs (words ws) t h k l = no_other ws vs t h l k
+other_apart vs c_quoted t h k l = absurd (cc)
+other_apart vs local t h k l = absurd (cc)
+other_apart vs global t h k l = absurd (cc)
+other_apart vs group t h k l = absurd (cc)
+other_apart vs digits t h k l = absurd (cc)
+other_apart vs number t h k l = absurd (cc)
+other_apart vs label t h k l = absurd (cc)
+other_apart vs (others ws) t h k l = absurd (cc)
+
+known_apart : (a b : Kind) (t : List ℕ) → has_heads a ≡ true → (has_heads b && heads_apart (heads a) (heads b)) ≡ true → is_of a t ≡ true → is_of b t ≡ true → ⊥
+known_apart a b t m h k l = let p = and_parts (has_heads b) (heads_apart (heads a) (heads b)) h in by_heads a b t m p.0 p.1 k l
 
 kind_apart : (a b : Kind) (t : List ℕ) → kinds_apart a b ≡ true → is_of a t ≡ true → is_of b t ≡ true → ⊥
 kind_apart (words ws) b t h k l = word_apart ws b t h k l
-kind_apart c_quoted b t h k l = by_heads c_quoted b t h k l
-kind_apart local b t h k l = by_heads local b t h k l
-kind_apart global b t h k l = by_heads global b t h k l
-kind_apart group b t h k l = by_heads group b t h k l
-kind_apart digits b t h k l = by_heads digits b t h k l
-kind_apart number b t h k l = by_heads number b t h k l
-kind_apart label b t h k l = by_heads label b t h k l
+kind_apart c_quoted b t h k l = known_apart c_quoted b t refl h k l
+kind_apart local b t h k l = known_apart local b t refl h k l
+kind_apart global b t h k l = known_apart global b t refl h k l
+kind_apart group b t h k l = known_apart group b t refl h k l
+kind_apart digits b t h k l = known_apart digits b t refl h k l
+kind_apart number b t h k l = known_apart number b t refl h k l
+kind_apart label b t h k l = known_apart label b t refl h k l
+kind_apart (others vs) b t h k l = other_apart vs b t h k l
 
 one_apart : (a : Kind) (bs : List Kind) (t : List ℕ) → list_all (kinds_apart a) bs ≡ true → is_of a t ≡ true → is_in bs t ≡ true → ⊥
 one_apart a [] t h k l = absurd (cc)

@@ -17,3 +17,7 @@ pub mod Known
 pub mod InstructionsExact
 pub mod Either
 pub mod OperationExact
+pub mod Loop
+pub mod Loops
+pub mod TerminatorExact
+pub mod Rows

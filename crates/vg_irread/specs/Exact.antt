@@ -74,6 +74,59 @@ many s = record {
   nests = λ ts. greatest (map s.nests ts);
 }
 
+-- steps, each of which makes a state of the one before: which a state allows, and what each makes of it
+pub record Steps (T S : Type 0) : Type 0 where
+  pub allows : S → T → Bool
+  pub spelled : T → List Slot → List Slot
+  pub makes : S → T → S
+  pub nests : T → ℕ
+
+-- one step from a state
+abbrev pub step : {T S : Type 0} → Steps T S → S → Spelling T S
+step p s = record { grammar = p.allows s; spelled = p.spelled; means = p.makes s; nests = p.nests }
+
+-- each state allows the step from it
+abbrev pub are_steps : {T S : Type 0} → Steps T S → S → List T → Bool
+are_steps p s [] = true
+are_steps p s (t ∷ ts) = p.allows s t && are_steps p (p.makes s t) ts
+
+-- the state behind all steps
+abbrev pub made_by : {T S : Type 0} → Steps T S → S → List T → S
+made_by p s [] = s
+made_by p s (t ∷ ts) = made_by p (p.makes s t) ts
+
+-- as many steps as there are
+abbrev pub run : {T S : Type 0} → Steps T S → S → Spelling (List T) S
+run p s = record {
+  grammar = are_steps p s;
+  spelled = spelled_list p.spelled;
+  means = made_by p s;
+  nests = λ ts. greatest (map p.nests ts);
+}
+
+-- there are some
+abbrev pub are_some : {T : Type 0} → List T → Bool
+are_some [] = false
+are_some (t ∷ ts) = true
+
+-- as many as there are, which stand for whether there are some
+abbrev pub skipped : {T X : Type 0} → Spelling T X → Spelling (List T) Bool
+skipped s = record {
+  grammar = λ ts. list_all s.grammar ts;
+  spelled = λ ts behind. spelled_list s.spelled ts behind;
+  means = λ ts. are_some ts;
+  nests = λ ts. greatest (map s.nests ts);
+}
+
+-- as many as there are, behind those so far
+abbrev pub row : {T X : Type 0} → Spelling T X → List X → Spelling (List T) (List X)
+row s xs = record {
+  grammar = λ ts. list_all s.grammar ts;
+  spelled = λ ts behind. spelled_list s.spelled ts behind;
+  means = λ ts. xs ++ map s.means ts;
+  nests = λ ts. greatest (map s.nests ts);
+}
+
 -- by the alternative
 abbrev pub by : {A B C : Type 0} → (A → C) → (B → C) → A ⊎ B → C
 by f g (inl a) = f a

@@ -14,6 +14,8 @@ pub data Kind : Type 0 where
   digits : Kind
   number : Kind
   label : Kind
+  -- any lexeme but these
+  others : List (List ℕ) → Kind
 
 abbrev pub is_of : Kind → List ℕ → Bool
 is_of (words ws) text = is_one_of ws text
@@ -24,6 +26,7 @@ is_of group text = is_group text
 is_of digits text = are_digits text
 is_of number text = is_number text
 is_of label text = is_label text
+is_of (others ws) text = not (is_one_of ws text)
 
 -- a lexeme of one of these kinds
 abbrev pub is_in : List Kind → List ℕ → Bool
@@ -59,6 +62,19 @@ heads group = byte 35 ∷ []
 heads digits = (48, 57) ∷ []
 heads number = byte 45 ∷ (48, 57) ∷ []
 heads label = (48, 57) ∷ (65, 90) ∷ (97, 122) ∷ byte 45 ∷ byte 36 ∷ byte 46 ∷ byte 95 ∷ byte 34 ∷ []
+heads (others ws) = []
+
+-- a kind is known by its first bytes
+abbrev pub has_heads : Kind → Bool
+has_heads (words ws) = true
+has_heads c_quoted = true
+has_heads local = true
+has_heads global = true
+has_heads group = true
+has_heads digits = true
+has_heads number = true
+has_heads label = true
+has_heads (others ws) = false
 
 -- no byte is in both
 abbrev pub are_apart : ℕ × ℕ → ℕ × ℕ → Bool
@@ -76,16 +92,23 @@ words_apart ws group = heads_apart (heads (words ws)) (heads group)
 words_apart ws digits = heads_apart (heads (words ws)) (heads digits)
 words_apart ws number = heads_apart (heads (words ws)) (heads number)
 words_apart ws label = heads_apart (heads (words ws)) (heads label)
+words_apart ws (others vs) = list_all (is_one_of vs) ws
+
+-- so all words of the kind are these
+abbrev pub others_apart : List (List ℕ) → Kind → Bool
+others_apart vs (words ws) = list_all (is_one_of vs) ws
+others_apart vs _ = false
 
 abbrev pub kinds_apart : Kind → Kind → Bool
 kinds_apart (words ws) b = words_apart ws b
-kinds_apart c_quoted b = heads_apart (heads c_quoted) (heads b)
-kinds_apart local b = heads_apart (heads local) (heads b)
-kinds_apart global b = heads_apart (heads global) (heads b)
-kinds_apart group b = heads_apart (heads group) (heads b)
-kinds_apart digits b = heads_apart (heads digits) (heads b)
-kinds_apart number b = heads_apart (heads number) (heads b)
-kinds_apart label b = heads_apart (heads label) (heads b)
+kinds_apart c_quoted b = has_heads b && heads_apart (heads c_quoted) (heads b)
+kinds_apart local b = has_heads b && heads_apart (heads local) (heads b)
+kinds_apart global b = has_heads b && heads_apart (heads global) (heads b)
+kinds_apart group b = has_heads b && heads_apart (heads group) (heads b)
+kinds_apart digits b = has_heads b && heads_apart (heads digits) (heads b)
+kinds_apart number b = has_heads b && heads_apart (heads number) (heads b)
+kinds_apart label b = has_heads b && heads_apart (heads label) (heads b)
+kinds_apart (others vs) b = others_apart vs b
 
 -- no kind of the one set has a lexeme in common with a kind of the other
 abbrev pub apart : List Kind → List Kind → Bool

@@ -6,3 +6,5 @@ pub mod ReadingOperand
 pub mod ReadingInstruction
 pub mod ExactInstruction
 pub mod ExactOperand
+pub mod ReadingTerminator
+pub mod ExactTerminator

@@ -30,6 +30,11 @@ abbrev pub token_at : {X : Type 0} → (Placed → Option X) → Wanted → Read
 token_at take w d [] = leaves 0 w
 token_at take w d (t ∷ ts) = token_by (take t) w ts
 
+-- the next lexeme is of these kinds
+abbrev pub next_in : List Kind → List Placed → Bool
+next_in kinds [] = false
+next_in kinds (t ∷ ts) = is_in kinds t.text
+
 -- ---- what may lack, and rows
 
 abbrev pub optional_by : {X : Type 0} → Bool → Reader X → Reader (Option X)
@@ -51,9 +56,34 @@ many_from (suc fuel) kinds read xs d (t ∷ ts) =
 abbrev pub many_at : {X : Type 0} → List Kind → Reader X → Reader (List X)
 many_at kinds read d ts = many_from (length ts + 1) kinds read [] d ts
 
+-- ---- steps from a state to the next
+
+-- While the next lexeme is of these kinds, what is read makes a state of the one before. The fuel is more than the number of
+-- lexemes.
+abbrev pub loop_from : {S : Type 0} → ℕ → List Kind → (S → Reader S) → S → Reader S
+loop_from zero kinds read s d ts = too_deep
+loop_from (suc fuel) kinds read s d [] = reads (s, [])
+loop_from (suc fuel) kinds read s d (t ∷ ts) =
+    if is_in kinds t.text then answer.◌>>=◌ (read s d (t ∷ ts)) (λ x. loop_from fuel kinds read x.0 d x.1) else reads (s, t ∷ ts)
+
+abbrev pub loop_at : {S : Type 0} → List Kind → (S → Reader S) → S → Reader S
+loop_at kinds read s d ts = loop_from (length ts + 1) kinds read s d ts
+
+-- whether some are read, as many as there are
+abbrev pub skipped_at : {X : Type 0} → List Kind → Reader X → Reader Bool
+skipped_at kinds read = loop_at kinds (λ b. read >>= λ x. done true) false
+
+-- as many as there are, behind those so far
+abbrev pub row_at : {X : Type 0} → List Kind → Reader X → List X → Reader (List X)
+row_at kinds read xs = loop_at kinds (λ ys. read >>= λ x. done (ys ++ x ∷ [])) xs
+
 -- ---- one or another
 
 -- the first where the next lexeme is of these kinds, else the second
 abbrev pub either_at : {X : Type 0} → List Kind → Reader X → Reader X → Reader X
 either_at kinds first second d [] = second d []
 either_at kinds first second d (t ∷ ts) = if is_in kinds t.text then first d (t ∷ ts) else second d (t ∷ ts)
+
+-- the first where it may stand and the next lexeme is of these kinds, else the second
+abbrev pub allowed_at : {X : Type 0} → Bool → List Kind → Reader X → Reader X → Reader X
+allowed_at may kinds first second = if may then either_at kinds first second else second

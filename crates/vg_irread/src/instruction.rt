@@ -187,7 +187,7 @@ fn compare_at<'a>(
 }
 
 /// `i1` and a condition.
-fn condition_at<'a>(
+pub(crate) fn condition_at<'a>(
     alloc: Global,
     text: &[u8],
     tokens: &'a [Lexeme],

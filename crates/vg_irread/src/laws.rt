@@ -1,5 +1,6 @@
 ghost use Rattle.vg_irread.specs.ExactOperand.{TypesAreExact, ResultNamesAreExact, OperandsAreExact, TypedAreExact, ValuesAreExact};
 ghost use Rattle.vg_irread.specs.ExactInstruction.{BinaryIsExact, CompareIsExact, SelectIsExact, CastIsExact, FreezeIsExact, OperationIsExact};
+ghost use Rattle.vg_irread.specs.ExactTerminator.{TerminatorsAreExact};
 
 /// What is read as a type, a name or an operand is one of the grammar that the lexemes in front spell; each one is read, where
 /// it ends; and where one is refused, the lexemes leave the grammar.
@@ -19,4 +20,9 @@ pub fn exact_instructions()
     ensures cast { CastIsExact }
     ensures freeze { FreezeIsExact }
     ensures by_word { OperationIsExact }
+{}
+
+/// So it is with terminators.
+pub fn exact_terminators()
+    ensures { TerminatorsAreExact }
 {}

@@ -66,3 +66,50 @@ fn texts_have_their_instructions(rt: HostRuntime) -> Result<(), Fail> {
     exact_instructions();
     Ok(())
 }
+
+/// How many lexemes are left behind a terminator; or how many where the text leaves the grammar, and what was wanted.
+fn shown_terminator(alloc: Global, text: &[u8]) -> Result<String, Fail> {
+    let tokens = lexemes(alloc, text)?;
+    match terminator_at(alloc, text, tokens.as_slice()) {
+        Ok((_, rest)) => {
+            let left = rest.len();
+            Ok(format!(in alloc; "{left} left")?)
+        }
+        Err(stop) => shown_stop(alloc, stop),
+    }
+}
+
+const TERMINATORS: [(&[u8], &str); 10] = [
+    (b"br label %a, !dbg !7", "5 left"),
+    (b"br i1 %c, label %a, label %b", "0 left"),
+    (
+        b"br i8 1, label %a, label %b",
+        "8 from the end, FixedType false",
+    ),
+    (
+        b"switch i8 %v, label %d [ i8 -1, label %a i8 2, label %b ]",
+        "0 left",
+    ),
+    (
+        b"switch i8 %v, label %d [ i8 256, label %a ]",
+        "5 from the end, Plain true",
+    ),
+    (
+        b"switch i8 %v, label %d [ half 1, label %a ]",
+        "6 from the end, AnyType false",
+    ),
+    (b"ret void }", "1 left"),
+    (b"ret i32* %p", "2 from the end, Operand true"),
+    (b"unreachable", "0 left"),
+    (b"resume i8 1", "3 from the end, Plain false"),
+];
+
+#[test]
+fn texts_have_their_terminators(rt: HostRuntime) -> Result<(), Fail> {
+    for (text, want) in TERMINATORS {
+        let found = shown_terminator(rt.alloc(), text)?;
+        assert_eq!(rt; found.as_str(), want, "at {text:?}");
+    }
+    exact_terminators();
+    Ok(())
+}

@@ -1,9 +1,12 @@
 //! Types, where a value's type or any type may stand.
 
 ghost use Rattle.std.specs.Prelude.{◌≡◌, IfOk, IfSome};
+ghost use Rattle.vg_irread.specs.Reading.{next_in};
 ghost use Rattle.vg_irparse.specs.Placed.{placed, placed_one};
 ghost use Rattle.vg_irparse.specs.Answer.{Gives};
-ghost use Rattle.vg_irparse.specs.Words.{entry_of, integer_words};
+ghost use Rattle.vg_irparse.specs.Words.{entry_of, integer_words, is_one_of};
+ghost use Rattle.vg_irread.specs.Kinds.{is_in};
+ghost use Rattle.vg_irread.specs.ReadingTerminator.{type_words};
 ghost use Rattle.vg_irparse.specs.ReadingType.{most_brackets};
 ghost use Rattle.vg_irread.specs.ReadingOperand;
 ghost use Rattle.vg_irread.specs.ReadingType;
@@ -13,7 +16,7 @@ use sqlite_items::Items;
 use std::alloc::Global;
 use vg_ir::{Ty, TypeAt};
 use vg_irlex::{Lexeme, piece};
-use vg_irparse::{Stop, Wanted, integer_width, type_at};
+use vg_irparse::{Stop, Wanted, integer_width, is_local, is_one_of, type_at};
 
 /// How many bits an integer type has.
 fn width_of(text: &[u8]) -> Option<u8>
@@ -74,4 +77,33 @@ pub fn any_type_at<'a>(
     ensures width { IfOk result (λ x. ReadingOperand.HasWidth x.0.ty) }
 {
     type_at(alloc, wanted, text, tokens)
+}
+
+const TYPE_WORDS: [&[u8]; 8] = [b"i1", b"i8", b"i16", b"i32", b"i64", b"ptr", b"[", b"{"];
+
+/// Whether a type that is no name may begin with a lexeme.
+fn is_type_word(text: &[u8]) -> bool
+    ensures { result ≡ is_one_of type_words text.now }
+{
+    is_one_of(&TYPE_WORDS, text)
+}
+
+/// Whether a type may begin with a lexeme.
+fn is_type_start(text: &[u8]) -> bool
+    ensures { result ≡ is_in ReadingType.type_kinds text.now }
+{
+    if is_type_word(text) {
+        return true;
+    }
+    is_local(text)
+}
+
+/// Whether the next lexeme may begin a type.
+pub(crate) fn begins_type(text: &[u8], tokens: &[Lexeme]) -> bool
+    ensures { result ≡ next_in ReadingType.type_kinds (placed text.now tokens.now) }
+{
+    match tokens.split_first() {
+        Some((first, _)) => is_type_start(piece(text, *first)),
+        None => false,
+    }
 }
