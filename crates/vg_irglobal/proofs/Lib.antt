@@ -7,3 +7,4 @@ pub mod Within
 pub mod GlobalsExact
 pub mod Doors
 pub mod StructuresExact
+pub mod SkippedExact

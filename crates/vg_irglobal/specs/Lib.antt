@@ -4,3 +4,5 @@ pub mod ReadingGlobal
 pub mod ExactGlobal
 pub mod ReadingStructure
 pub mod ExactStructure
+pub mod ReadingSkipped
+pub mod ExactSkipped
