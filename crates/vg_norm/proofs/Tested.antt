@@ -6,7 +6,6 @@ use Rattle.vg_isa.specs.declared.isa.Parts.{Parts}
 use Rattle.vg_isa.specs.declared.expr.Expr.{Expr, fold-roll-Expr, map-Expr, roll-Expr}
 use Rattle.vg_isa.specs.declared.expr.Expr.TheOpen.{Expr-F}
 use Rattle.vg_isa.specs.Typing.{Typing, typing_step, width_of}
-use Rattle.vg_isa.specs.Value.{loaded}
 use Rattle.vg_graph.specs.declared.node.Node.{Node}
 use Rattle.vg_graph.specs.declared.operator.Op.TheVariants as op
 use Rattle.vg_graph.specs.declared.operands.Operands.TheVariants.{Zero}
@@ -16,11 +15,6 @@ use Rattle.vg_graph.specs.Graph.{AreExact, GraphValue, IsFit, edges_of, operand_
 use Rattle.std.specs.Option.{option_and_then}
 use Rattle.vg_graph.proofs.LevelLemmas.{node_of-same}
 use Rattle.vg_graph.proofs.TreeLemmas.{level_of_tree}
-
--- no byte is set
-pub loaded_nothing : (space at n : ℕ) → loaded (λ a. 0) space at n ≡ 0
-loaded_nothing space at zero = refl
-loaded_nothing space at (suc n) = omega (arith, loaded_nothing space (at + 1) n)
 
 -- the width of the tree at a node without operands
 leaf_width : (d : Parts) (nodes : List Node) (n : ℕ) (e : Expr) (x : Expr-F ℕ) → slice_get nodes n ≡ Some (node_of x) → IsTree nodes n e

@@ -3,42 +3,11 @@ ghost use Rattle.std.specs.Prelude.{◌≡◌, ◌∷◌, [], Some, length, IfOk
 ghost use Rattle.vg_bits.specs.BitValue.{BitValue};
 ghost use Rattle.vg_isa.specs.declared.expr.Expr.TheVariants as tree;
 ghost use Rattle.vg_isa.specs.declared.operator.BinOp.TheVariants as kind;
-ghost use Rattle.vg_isa.specs.Value.{Reads};
 
 use sqlite_items::{Boxed, Items};
 use std::alloc::{AllocError, Global};
 use vg_bits::{Bits, Width};
-use vg_isa::{
-    BinOp, Expr, FieldDecl, Format, FormatId, Instr, InstrId, Isa, Parts, PcDecl, RegId, View,
-};
-
-/// A state at this address, without registers and with no byte set.
-#[derive(Clone, Copy)]
-pub struct At(pub Bits);
-
-impl View for At {
-    ghost use Rattle.vg_isa.specs.declared.declaration.RegDecl.{RegDecl};
-
-    ghost reads = { λ at. record {
-      pc = at.0;
-      reg = λ r i. record { width = 1; number = 0 };
-      byte = λ a. 0;
-    } };
-
-    ghost registers = { λ at. [] };
-
-    fn pc(&self) -> Bits {
-        self.0
-    }
-
-    fn reg(&self, _r: RegId, _i: u8) -> Bits {
-        Bits::of(Width::of(1), 0)
-    }
-
-    fn mem(&self, _at: Bits, bytes: u8) -> Bits {
-        Bits::of(Width::of(8 * bytes), 0)
-    }
-}
+use vg_isa::{BinOp, Expr, FieldDecl, Format, FormatId, Instr, Isa, Parts, PcDecl};
 
 /// Four, in 32 bits.
 fn four() -> Expr
@@ -119,7 +88,6 @@ pub fn description(alloc: Global) -> Result<Isa, AllocError>
     ensures one { IfOk result (λ isa. length isa.instrs ≡ 1) }
     ensures word { IfOk result (λ isa. isa.word ≡ 32) }
     ensures address { IfOk result (λ isa. isa.pc.width ≡ 32) }
-    ensures registers { IfOk result (λ isa. isa.regs ≡ []) }
 {
     let parts = Parts {
         name: Items::from_slice(alloc, b"T")?,
